@@ -1,0 +1,27 @@
+-- Document 01: "A refused call answers with the number alone and stores nothing in anything lent."
+use Prim.Native.Nat.{ℕ}
+use mathlib.Core.List.{List}
+use mathlib.Core.Option.{Option, some, none}
+use Rattle.scope.specs.Refusal.{Complaint, number}
+use Rattle.scope.specs.declared.Verdict.{Verdict}
+use Rattle.scope.specs.declared.Verdict.the-variants.{Fine, Refused}
+
+-- What a reply says, whatever enum carries it: a refusal's number, or an answer.
+pub data Said (A : Type 0) : Type 0 where
+  refused : ℕ → Said A
+  answered : A → Said A
+
+-- What a call is to say: with a complaint its number alone, with none the answer.
+abbrev pub reply : {A : Type 0} → Option Complaint → A → Said A
+reply none answer = answered answer
+reply (some c) answer = refused (number (c .reason))
+
+-- What something lent is to hold afterwards: with a complaint what it held before, with none what the call stores.
+abbrev pub stored : {A : Type 0} → Option Complaint → A → A → A
+stored none before after = after
+stored (some c) before after = before
+
+-- A verdict on a call's tests, or on some of them, as an answer of the code.
+abbrev pub verdict : Option Complaint → Verdict
+verdict none = Fine
+verdict (some c) = Refused (number (c .reason))

@@ -1,0 +1,46 @@
+-- Document 01, "The measurement in numbers": a run, its lines and its cells.
+use Prim.Native.Nat.{ℕ, suc, _+_, _-_, _*_, _/_, _%_, _≤_}
+use mathlib.Core.Path.{_≡_}
+use lib.IntN.{ℤ, pos, _+ℤ_, _-ℤ_}
+use Rattle.scope.specs.declared.Run.{Run}
+use Rattle.scope.specs.declared.Source.{Source}
+
+-- The table of ranges: "window I: even, 2 to 4,096; interval T: 1 to 4,294,967,295; lines: first ≥ 1, last ≥ first, last ≤ 16,777,216".
+pub record Valid (run : Run) : Type 0 where
+  pub even : run .window % 2 ≡ 0
+  pub narrow : 2 ≤ run .window
+  pub wide : run .window ≤ 4096
+  pub begins : 1 ≤ run .first
+  pub ordered : run .first ≤ run .last
+  pub ends : run .last ≤ 16777216
+  pub ticks : 1 ≤ run .interval
+  pub fits : run .interval ≤ 4294967295
+
+-- The same table: "period p: 1 to 2,147,483,647".
+pub record ValidSource (source : Source) : Type 0 where
+  pub ticks : 1 ≤ source .period
+  pub fits : source .period ≤ 2147483647
+
+-- "a first line and a last line": both belong to the run.
+unfoldable pub linesOf : Run → ℕ
+linesOf run = suc (run .last) - run .first
+
+-- "from 0 to I·(number of lines) - 1": how many cells there are.
+unfoldable pub cellsOf : Run → ℕ
+cellsOf run = run .window * linesOf run
+
+-- "Cell number: x = (j - first line)·I + i + I/2", of the offset i and the line j.
+unfoldable pub cellOf : Run → ℤ → ℕ → ℤ
+cellOf run i j = pos ((j - run .first) * run .window) +ℤ i +ℤ pos (run .window / 2)
+
+-- The line of cell x: "rising x is line order, then offset order".
+unfoldable pub lineOf : Run → ℕ → ℕ
+lineOf run x = run .first + x / run .window
+
+-- The offset of cell x: "offsets run from minus half the window up to half the window less one".
+unfoldable pub offsetOf : Run → ℕ → ℤ
+offsetOf run x = pos (x % run .window) -ℤ pos (run .window / 2)
+
+-- "(block's first line - run's first line)·I": what turns a block's cell number into the run's.
+unfoldable pub shiftOf : Run → Run → ℕ
+shiftOf run block = (block .first - run .first) * run .window

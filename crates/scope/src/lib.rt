@@ -1,0 +1,124 @@
+// Runs, cells, sources and their limits: document 01's words as types, and the tests that every call begins with.
+// Every function is proved. No function here is a public operation: each is an inner step of the crates above.
+ghost use mathlib.Core.Path.{_≡_};
+ghost use Prim.Native.Nat.{_+_, _-_, _≤_, _<_, _^_};
+ghost use Rattle.scope.specs.Run.{Valid, cellsOf};
+ghost use Rattle.scope.specs.Refusal.{complaint, windowTests, lineTests, runTests, sourceTests};
+ghost use Rattle.scope.specs.Reply.{verdict};
+
+// A run: the window's width and the interval in ticks, the first and the last line.
+pub struct Run {
+    pub window: u32,
+    pub interval: u32,
+    pub first: u32,
+    pub last: u32,
+}
+
+// A source, less its weight: it has an edge at every multiple of its period.
+pub struct Source {
+    pub period: u32,
+}
+
+// A cell number of the run that a call is about.
+pub struct RunCell(pub u64);
+
+// A cell number of a block of that run, counted from the block's own first line.
+pub struct BlockCell(pub u64);
+
+// What the tests of a call, or some of them, came to.
+pub enum Verdict {
+    // No test was failed.
+    Fine,
+    // The number of the first test that was.
+    Refused(u8),
+}
+
+// Inner step. What 01's table says of a window.
+pub fn judge_window(window: u32) -> Verdict
+    ensures { λ r. ⌜ r ≡ verdict (complaint (windowTests window)) ⌝ }
+{
+    if window % 2 == 1 {
+        return Verdict::Refused(1);
+    }
+    if window < 2 {
+        return Verdict::Refused(1);
+    }
+    if 4096 < window {
+        return Verdict::Refused(1);
+    }
+    Verdict::Fine
+}
+
+// Inner step. What 01's table says of a first and a last line.
+pub fn judge_lines(first: u32, last: u32) -> Verdict
+    ensures { λ r. ⌜ r ≡ verdict (complaint (lineTests first last)) ⌝ }
+{
+    if first < 1 {
+        return Verdict::Refused(2);
+    }
+    if last < first {
+        return Verdict::Refused(2);
+    }
+    if 16777216 < last {
+        return Verdict::Refused(2);
+    }
+    Verdict::Fine
+}
+
+// Inner step. What 01's table says of a run: its window, then its lines, then its interval.
+pub fn judge_run(run: Run) -> Verdict
+    ensures { λ r. ⌜ r ≡ verdict (complaint (runTests run)) ⌝ }
+{
+    if let Verdict::Refused(number) = judge_window(run.window) {
+        return Verdict::Refused(number);
+    }
+    if let Verdict::Refused(number) = judge_lines(run.first, run.last) {
+        return Verdict::Refused(number);
+    }
+    if run.interval == 0 {
+        return Verdict::Refused(3);
+    }
+    Verdict::Fine
+}
+
+// Inner step. What 01's table says of a source, whatever its weight.
+pub fn judge_source(source: Source) -> Verdict
+    ensures { λ r. ⌜ r ≡ verdict (complaint (sourceTests source)) ⌝ }
+{
+    let period = source.period;
+    if period == 0 {
+        return Verdict::Refused(4);
+    }
+    if 2147483647 < period {
+        return Verdict::Refused(4);
+    }
+    Verdict::Fine
+}
+
+// Inner step. How many cells a run within the limits has: at most 4,096 on each of its lines.
+pub fn cells(run: Run) -> u64
+    requires { ⌜ Valid run ⌝ }
+    ensures { λ r. ⌜ r ≡ cellsOf run ⌝ }
+{
+    run.window as u64 * (run.last - run.first + 1) as u64
+}
+
+impl BlockCell {
+    // Inner step. The run's number of a block's cell: the block's shift is added.
+    pub fn in_run(self, shift: u64) -> RunCell
+        requires { ⌜ self .0 + shift < 2 ^ 64 ⌝ }
+        ensures { λ r. ⌜ r .0 ≡ self .0 + shift ⌝ }
+    {
+        RunCell(self.0 + shift)
+    }
+}
+
+impl RunCell {
+    // Inner step. The block's number of a run's cell that is not before the block: the block's shift is taken away.
+    pub fn in_block(self, shift: u64) -> BlockCell
+        requires { ⌜ shift ≤ self .0 ⌝ }
+        ensures { λ r. ⌜ r .0 ≡ self .0 - shift ⌝ }
+    {
+        BlockCell(self.0 - shift)
+    }
+}

@@ -1,0 +1,84 @@
+-- A natural number p divides an integer z: p ∣ natAbs z. Told of a difference by multiples of p and by remainders.
+-- Every law holds for p = 0 too: 0 divides 0 alone, and n % 0 is n. Assumes nothing.
+use mathlib.Core.Path.{_≡_, refl, sym, ap, _∙_, subst}
+use mathlib.Core.Bool.{true}
+use mathlib.Core.Logic.{_↔_}
+use Prim.Native.Nat.{ℕ, zero, suc, _+_, _*_, _/_, _%_, _∣_}
+use native.Mathlib.Omega.{arith}
+use native.Mathlib.Nat.{dvd-zero, dvd-mul-left, dvd-mul-left-of-dvd, dvd-add-iff-left, dvd-iff-mod-eq-zero, div-mul-cancel, mod-add-div', add-mul-mod-self-right}
+use lib.Dec.{eqb}
+use lib.IntN.{ℤ, pos, negsuc, negℤ, natAbs, _+ℤ_, _-ℤ_, _*ℤ_}
+use borrow.Author.Tests.{eqb-true, eq-eqb}
+use Rattle.signed.proofs.Parts.{up, dn, parts, sum, neg-up, neg-dn}
+use Rattle.signed.proofs.Difference.{diff, diff-parts}
+
+-- multiples of p lead from a and from b to one number
+abbrev pub Multiples : ℕ → ℕ → ℕ → Type 0
+Multiples p a b = (x : ℕ) × (y : ℕ) × (a + x * p ≡ b + y * p)
+
+-- p divides z exactly if multiples of p lead from its parts to one number
+to-parts : (p : ℕ) (z : ℤ) → p ∣ natAbs z → Multiples p (up z) (dn z)
+to-parts p (pos n) h = (0, n / p, omega (arith, div-mul-cancel p h))
+to-parts p (negsuc n) h = (suc n / p, 0, omega (arith, div-mul-cancel p h))
+
+-- n and some multiples of p make a multiple of p
+left-over : (p n x y : ℕ) → n + x * p ≡ y * p → p ∣ n
+left-over p n x y e = dvd-add-iff-left p (dvd-mul-left p x) .1 (rw e (dvd-mul-left p y))
+
+of-parts : (p : ℕ) (z : ℤ) → Multiples p (up z) (dn z) → p ∣ natAbs z
+of-parts p (pos n) m = left-over p n (m .0) (m .1) (omega arith)
+of-parts p (negsuc n) m = left-over p (suc n) (m .1) (m .0) (omega arith)
+
+pub divides-multiples : (p a b : ℕ) → (p ∣ natAbs (diff a b)) ↔ Multiples p a b
+divides-multiples p a b = (
+  λ h. let m = to-parts p (diff a b) h in (m .0, m .1, omega (arith, diff-parts a b)),
+  λ m. of-parts p (diff a b) (m .0, m .1, omega (arith, diff-parts a b)),
+)
+
+pub multiples-mod : (p a b : ℕ) → Multiples p a b ↔ (a % p ≡ b % p)
+multiples-mod p a b = (
+  λ m. sym (add-mul-mod-self-right a (m .0) p) ∙ ap (λ (n : ℕ). n % p) (m .2) ∙ add-mul-mod-self-right b (m .1) p,
+  λ e. (b / p, a / p, omega (arith, mod-add-div' a p, mod-add-div' b p)),
+)
+
+pub divides-mod : (p a b : ℕ) → (p ∣ natAbs (diff a b)) ↔ (a % p ≡ b % p)
+divides-mod p a b =
+    (λ h. multiples-mod p a b .0 (divides-multiples p a b .0 h), λ e. divides-multiples p a b .1 (multiples-mod p a b .1 e))
+
+-- the Boolean test
+pub divides-test : (p : ℕ) (z : ℤ) → (eqb (natAbs z % p) 0 ≡ true) ↔ (p ∣ natAbs z)
+divides-test p z =
+    (λ e. dvd-iff-mod-eq-zero p .1 (eqb-true (natAbs z % p) 0 e), λ h. eq-eqb (natAbs z % p) 0 (dvd-iff-mod-eq-zero p .0 h))
+
+-- x - y is a - b, written without a difference: for a hit, x is T * j, y the offset i, a is T * j + I / 2, b is i + I / 2
+pub divides-apart : (p a b : ℕ) (x y : ℤ) → x +ℤ pos b ≡ y +ℤ pos a → (p ∣ natAbs (x -ℤ y)) ↔ (a % p ≡ b % p)
+divides-apart p a b x y e = rw same (divides-mod p a b)
+  where
+    same : x -ℤ y ≡ diff a b
+    same = omega (arith, parts, diff-parts a b, sum x (negℤ y), neg-up y, neg-dn y, sum x (pos b), sum y (pos a))
+
+-- ---- what p divides is closed under negation, sums and multiples
+
+pub divides-neg : (p : ℕ) (z : ℤ) → p ∣ natAbs z → p ∣ natAbs (negℤ z)
+divides-neg p (pos zero) h = h
+divides-neg p (pos (suc n)) h = h
+divides-neg p (negsuc n) h = h
+
+pub divides-sum : (p : ℕ) (x y : ℤ) → p ∣ natAbs x → p ∣ natAbs y → p ∣ natAbs (x +ℤ y)
+divides-sum p x y h k =
+    let m = to-parts p x h in
+    let n = to-parts p y k in
+    of-parts p (x +ℤ y) (m .0 + n .0, m .1 + n .1, omega (arith, sum x y))
+
+abs-neg : (n : ℕ) → natAbs (negℤ (pos n)) ≡ n
+abs-neg zero = refl
+abs-neg (suc n) = refl
+
+pub abs-product : (x y : ℤ) → natAbs (x *ℤ y) ≡ natAbs x * natAbs y
+abs-product (pos a) (pos b) = refl
+abs-product (pos a) (negsuc b) = abs-neg (a * suc b)
+abs-product (negsuc a) (pos b) = abs-neg (suc a * b)
+abs-product (negsuc a) (negsuc b) = refl
+
+pub divides-product : (p : ℕ) (k z : ℤ) → p ∣ natAbs z → p ∣ natAbs (k *ℤ z)
+divides-product p k z h = rw (abs-product k z) (dvd-mul-left-of-dvd p h (natAbs k))
