@@ -1,1 +1,5 @@
+-- The laws of refusals, of limits, of cells and of hits that the crates above cite.
 pub mod Judged
+pub mod Limits
+pub mod Numbering
+pub mod Hits

@@ -1,4 +1,5 @@
 pub mod Run
 pub mod Hit
 pub mod Refusal
+pub mod Entry
 pub mod Reply

@@ -8,20 +8,35 @@ use Rattle.scope.specs.declared.Source.{Source}
 
 -- The rows of the table of refusal numbers, each by what is wrong.
 pub data Reason : Type 0 where
+  -- "window odd, below 2 or above 4,096"
   Window : Reason
+  -- "a line limit broken"
   Lines : Reason
+  -- "interval 0"
   Interval : Reason
+  -- "period 0 or above 2,147,483,647"
   Period : Reason
+  -- "vectors: r ≥ p"
   Remainder : Reason
+  -- "vectors: I > p"
   WiderThanPeriod : Reason
+  -- "weight 0 or above 255"
   Weight : Reason
+  -- "starting cell not in the run"
   Start : Reason
+  -- "listing room 0; map or file room not of the exact length"
   Room : Reason
+  -- "period and weight lists of unequal length"
   Lists : Reason
+  -- "text not of the form below"
   Text : Reason
+  -- "text: more than 64 sources, or a run of more than 65,536 cells"
   TooMany : Reason
+  -- "saved file: no whole number of blocks, none, or not as many as its run needs"
   Blocks : Reason
+  -- "saved file: wrong block number or check"
   Check : Reason
+  -- "saved file: version, spare byte or filling not as laid down"
   Layout : Reason
 
 -- The table's first column.
@@ -104,7 +119,17 @@ runTests run =
     Interval when eqb (run .interval) 0
 
 -- "4: period 0 or above 2,147,483,647".
+unfoldable pub periodTests : ℕ → Tests
+periodTests period =
+    Period when eqb period 0 andThen
+    Period when ltb 2147483647 period
+
+-- A source's tests where no weight is given.
 unfoldable pub sourceTests : Source → Tests
-sourceTests source =
-    Period when eqb (source .period) 0 andThen
-    Period when ltb 2147483647 (source .period)
+sourceTests source = periodTests (source .period)
+
+-- "7: weight 0 or above 255", of any ceiling.
+unfoldable pub weightTests : ℕ → ℕ → Tests
+weightTests ceiling weight =
+    Weight when eqb weight 0 andThen
+    Weight when ltb ceiling weight

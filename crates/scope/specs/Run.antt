@@ -1,7 +1,8 @@
 -- Document 01, "The measurement in numbers": a run, its lines and its cells.
 use Prim.Native.Nat.{ℕ, suc, _+_, _-_, _*_, _/_, _%_, _≤_}
 use mathlib.Core.Path.{_≡_}
-use lib.IntN.{ℤ, pos, _+ℤ_, _-ℤ_}
+use lib.IntN.{ℤ, pos, negℤ, _+ℤ_, _-ℤ_, _*ℤ_}
+use lib.Signed.{_≤ℤ_, _<ℤ_}
 use Rattle.scope.specs.declared.Run.{Run}
 use Rattle.scope.specs.declared.Source.{Source}
 
@@ -29,17 +30,31 @@ linesOf run = suc (run .last) - run .first
 unfoldable pub cellsOf : Run → ℕ
 cellsOf run = run .window * linesOf run
 
+-- "Offsets run from minus half the window up to half the window less one: -I/2 ≤ i < I/2", and line j is one of the run's.
+pub record InRun (run : Run) (i : ℤ) (j : ℕ) : Type 0 where
+  pub left : negℤ (pos (run .window / 2)) ≤ℤ i
+  pub right : i <ℤ pos (run .window / 2)
+  pub from : run .first ≤ j
+  pub to : j ≤ run .last
+
 -- "Cell number: x = (j - first line)·I + i + I/2", of the offset i and the line j.
 unfoldable pub cellOf : Run → ℤ → ℕ → ℤ
-cellOf run i j = pos ((j - run .first) * run .window) +ℤ i +ℤ pos (run .window / 2)
+cellOf run i j = ((pos j -ℤ pos (run .first)) *ℤ pos (run .window)) +ℤ i +ℤ pos (run .window / 2)
 
--- The line of cell x: "rising x is line order, then offset order".
+-- The line of the cell with number x: the other way round ("rising x is line order, then offset order").
 unfoldable pub lineOf : Run → ℕ → ℕ
 lineOf run x = run .first + x / run .window
 
--- The offset of cell x: "offsets run from minus half the window up to half the window less one".
+-- The offset of the cell with number x.
 unfoldable pub offsetOf : Run → ℕ → ℤ
 offsetOf run x = pos (x % run .window) -ℤ pos (run .window / 2)
+
+-- "A block is a run with the same window and interval and a part of the lines."
+pub record IsBlock (run block : Run) : Type 0 where
+  pub window : block .window ≡ run .window
+  pub interval : block .interval ≡ run .interval
+  pub from : run .first ≤ block .first
+  pub to : block .last ≤ run .last
 
 -- "(block's first line - run's first line)·I": what turns a block's cell number into the run's.
 unfoldable pub shiftOf : Run → Run → ℕ

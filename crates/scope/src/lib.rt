@@ -1,9 +1,9 @@
 // Runs, cells, sources and their limits: document 01's words as types, and the tests that every call begins with.
 // Every function is proved. No function here is a public operation: each is an inner step of the crates above.
 ghost use mathlib.Core.Path.{_≡_};
-ghost use Prim.Native.Nat.{_+_, _-_, _≤_, _<_, _^_};
-ghost use Rattle.scope.specs.Run.{Valid, cellsOf};
-ghost use Rattle.scope.specs.Refusal.{complaint, windowTests, lineTests, runTests, sourceTests};
+ghost use Prim.Native.Nat.{_+_, _-_, _≤_};
+ghost use Rattle.scope.specs.Run.{Valid, IsBlock, cellsOf, shiftOf};
+ghost use Rattle.scope.specs.Refusal.{complaint, windowTests, lineTests, runTests, periodTests, sourceTests};
 ghost use Rattle.scope.specs.Reply.{verdict};
 
 // A run: the window's width and the interval in ticks, the first and the last line.
@@ -19,10 +19,10 @@ pub struct Source {
     pub period: u32,
 }
 
-// A cell number of the run that a call is about.
+// A cell number of the run that a call is about; where the call is about a block, that block is its run.
 pub struct RunCell(pub u64);
 
-// A cell number of a block of that run, counted from the block's own first line.
+// A cell number of a block of that run, counted from the block's first line on.
 pub struct BlockCell(pub u64);
 
 // What the tests of a call, or some of them, came to.
@@ -81,11 +81,10 @@ pub fn judge_run(run: Run) -> Verdict
     Verdict::Fine
 }
 
-// Inner step. What 01's table says of a source, whatever its weight.
-pub fn judge_source(source: Source) -> Verdict
-    ensures { λ r. ⌜ r ≡ verdict (complaint (sourceTests source)) ⌝ }
+// Inner step. What 01's table says of a period.
+pub fn judge_period(period: u32) -> Verdict
+    ensures { λ r. ⌜ r ≡ verdict (complaint (periodTests period)) ⌝ }
 {
-    let period = source.period;
     if period == 0 {
         return Verdict::Refused(4);
     }
@@ -93,6 +92,13 @@ pub fn judge_source(source: Source) -> Verdict
         return Verdict::Refused(4);
     }
     Verdict::Fine
+}
+
+// Inner step. What 01's table says of a source, whatever its weight.
+pub fn judge_source(source: Source) -> Verdict
+    ensures { λ r. ⌜ r ≡ verdict (complaint (sourceTests source)) ⌝ }
+{
+    judge_period(source.period)
 }
 
 // Inner step. How many cells a run within the limits has: at most 4,096 on each of its lines.
@@ -103,22 +109,30 @@ pub fn cells(run: Run) -> u64
     run.window as u64 * (run.last - run.first + 1) as u64
 }
 
+// Inner step. "(block's first line - run's first line)·I": what turns a block's cell number into the run's.
+pub fn block_shift(run: Run, block: Run) -> u64
+    requires { ⌜ Valid run × IsBlock run block × Valid block ⌝ }
+    ensures { λ r. ⌜ r ≡ shiftOf run block ⌝ }
+{
+    (block.first - run.first) as u64 * run.window as u64
+}
+
 impl BlockCell {
-    // Inner step. The run's number of a block's cell: the block's shift is added.
-    pub fn in_run(self, shift: u64) -> RunCell
-        requires { ⌜ self .0 + shift < 2 ^ 64 ⌝ }
-        ensures { λ r. ⌜ r .0 ≡ self .0 + shift ⌝ }
+    // Inner step. The run's number of a cell of one of its blocks: the block's shift is added.
+    pub fn in_run(self, run: Run, block: Run) -> RunCell
+        requires { ⌜ Valid run × IsBlock run block × Valid block × self .0 ≤ cellsOf block ⌝ }
+        ensures { λ r. ⌜ r .0 ≡ self .0 + shiftOf run block ⌝ }
     {
-        RunCell(self.0 + shift)
+        RunCell(self.0 + block_shift(run, block))
     }
 }
 
 impl RunCell {
-    // Inner step. The block's number of a run's cell that is not before the block: the block's shift is taken away.
-    pub fn in_block(self, shift: u64) -> BlockCell
-        requires { ⌜ shift ≤ self .0 ⌝ }
-        ensures { λ r. ⌜ r .0 ≡ self .0 - shift ⌝ }
+    // Inner step. The number that a cell of the run has in a block that does not start after it: the block's shift is taken away.
+    pub fn in_block(self, run: Run, block: Run) -> BlockCell
+        requires { ⌜ Valid run × IsBlock run block × Valid block × shiftOf run block ≤ self .0 ⌝ }
+        ensures { λ r. ⌜ r .0 ≡ self .0 - shiftOf run block ⌝ }
     {
-        BlockCell(self.0 - shift)
+        BlockCell(self.0 - block_shift(run, block))
     }
 }

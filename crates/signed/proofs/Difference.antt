@@ -20,12 +20,15 @@ pub diff-parts : (a b : ℕ) → up (diff a b) + b ≡ a + dn (diff a b)
 unfolding diff
 diff-parts a b = Parts.sub-parts a b
 
--- the constructors
+-- the constructors, and what a negated literal is
 pub pos-diff : (n : ℕ) → pos n ≡ diff n 0
 pos-diff n = omega (arith, parts, diff-parts n 0)
 
 pub negsuc-diff : (n : ℕ) → negsuc n ≡ diff 0 (suc n)
 negsuc-diff n = omega (arith, parts, diff-parts 0 (suc n))
+
+pub neg-pos-diff : (n : ℕ) → negℤ (pos n) ≡ diff 0 n
+neg-pos-diff n = omega (arith, parts, diff-parts 0 n, Parts.neg-up (pos n), Parts.neg-dn (pos n))
 
 -- the operations
 pub diff-neg : (a b : ℕ) → negℤ (diff a b) ≡ diff b a
@@ -71,4 +74,4 @@ int (pos n) = subst Is (sym (pos-diff n)) (of n 0)
 int (negsuc n) = subst Is (sym (negsuc-diff n)) (of 0 (suc n))
 
 -- for simp's list: takes a statement over differences to one over natural numbers
-pub ruleset differences = (pos-diff, negsuc-diff, diff-neg, diff-sum, diff-product, diff-le, diff-lt, diff-eq, diff-fits)
+pub ruleset differences = (pos-diff, negsuc-diff, neg-pos-diff, diff-neg, diff-sum, diff-product, diff-le, diff-lt, diff-eq, diff-fits)

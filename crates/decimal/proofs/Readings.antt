@@ -1,0 +1,150 @@
+-- A text has one reading at a place; and what a loop knows that passes one digit after the other: the number so far, and where none can stand.
+-- Assumes nothing.
+use Prim.Native.Nat.{ℕ, _+_, _*_, _-_, _<_, _≤_, _^_}
+use mathlib.Core.Path.{_≡_, refl, sym, ap, _∙_}
+use mathlib.Core.Bool.{true, false, true≢false}
+use mathlib.Core.List.{List, [], _∷_, _++_, append-assoc}
+use native.Mathlib.Numerals.{add-one}
+use native.Mathlib.Decide.{decLt}
+use native.Mathlib.Omega.{arith}
+use lib.ListN.{length, getD, drop, length-append, length-drop, drop-of-length-le}
+use lib.Seq.{drop-cons, drop-drop, drop-append-seam}
+use Rattle.decimal.specs.Digits.{digits, isDigit, beginsWithDigit}
+use Rattle.decimal.specs.Promises.{Stands, Reading}
+use Rattle.decimal.specs.declared.Number.{Number}
+use Rattle.decimal.specs.declared.Number.the-variants.{Value, Bad}
+use Rattle.decimal.proofs.Laws.{
+  is-digit,
+  digit-bounds,
+  digits-one,
+  digits-snoc,
+  digits-all,
+  digits-numeral,
+  digits-split,
+  all-append,
+  begins-number,
+  length-pos,
+  run-prefix,
+  value-snoc,
+  value-prefix,
+}
+
+-- ---- there is one
+
+-- two numbers that stand at one place are the same and end at the same place
+pub stands-unique : {text : List ℕ} {at v v′ next next′ : ℕ} → Stands text at v next → Stands text at v′ next′
+    → (v ≡ v′) × (next ≡ next′)
+stands-unique {text} {at} {v} {v′} {next} {next′} a b =
+    let e = digits-split v v′ (drop next text) (drop next′ text) (a .ended) (b .ended) (sym (a .spelled) ∙ b .spelled) .0 in
+    (e, a .place ∙ ap (λ n. at + length (digits n)) e ∙ sym (b .place))
+
+-- no second reading fits
+pub reading-unique : (text : List ℕ) (at : ℕ) (r r′ : Number) → Reading text at r → Reading text at r′ → r ≡ r′
+reading-unique text at (Value v next) (Value v′ next′) a b = let e = stands-unique a b in cc
+reading-unique text at (Value v next) Bad a b = absurd (b v next a)
+reading-unique text at Bad (Value v next) a b = absurd (a v next b)
+reading-unique text at Bad Bad a b = refl
+
+-- a number that stands in a text ends within it
+pub stands-within : {text : List ℕ} {at v next : ℕ} → Stands text at v next → (at < next) × (next ≤ length text)
+stands-within {text} {at} {v} {next} s =
+    let l = simp (length-append, length-drop) at (ap length (s .spelled)) in
+    omega (arith, length-pos v, s .place)
+
+-- a number and what follows it, wherever they are found, stand there
+pub stands : (text : List ℕ) (at v : ℕ) (rest : List ℕ) → v < 2 ^ 32 → drop at text ≡ digits v ++ rest
+    → beginsWithDigit rest ≡ false → Stands text at v (at + length (digits v))
+stands text at v rest small e ended =
+    let d : drop (at + length (digits v)) text ≡ rest =
+    sym (drop-drop (length (digits v)) at text) ∙ ap (drop (length (digits v))) e ∙ drop-append-seam (digits v) rest in
+    record { small = small; spelled = rw d e; ended = rw d ended; place = refl }
+
+-- ---- a digit at a place
+
+-- d is the digit at `at`
+pub record Digit (text : List ℕ) (at d : ℕ) : Type 0 where
+  pub within : at < length text
+  pub small : d < 10
+  pub byte : getD text at 0 ≡ 48 + d
+  pub there : drop at text ≡ (48 + d) ∷ drop (at + 1) text
+
+-- no digit stands past the end; before it, the text from `at` on begins with the byte there
+pub begins-past : (text : List ℕ) (at : ℕ) → length text ≤ at → beginsWithDigit (drop at text) ≡ false
+begins-past text at h = rw (drop-of-length-le text h)
+
+pub begins-at : (text : List ℕ) (at : ℕ) → at < length text → beginsWithDigit (drop at text) ≡ isDigit (getD text at 0)
+begins-at text at h = ap beginsWithDigit (drop-cons text at 0 h)
+
+-- where a text begins with a digit, that is the byte there less 48
+pub digit : (text : List ℕ) (at d : ℕ) → d ≡ getD text at 0 - 48 → beginsWithDigit (drop at text) ≡ true → Digit text at d
+digit text at d e begins =
+    elim (decLt at (length text)) [
+      | yes h ↦
+          let k = digit-bounds (getD text at 0) (sym (begins-at text at h) ∙ begins) in
+          let b : getD text at 0 ≡ 48 + d = omega arith in
+          record { within = h; small = omega arith; byte = b; there = rw (← b, add-one) (drop-cons text at 0 h) }
+      | no h ↦ absurd (true≢false (sym begins ∙ begins-past text at (omega arith)))
+    ]
+
+-- ---- the digits passed
+
+-- the digits passed from `at` up to `next` are those of v
+pub record Passed (text : List ℕ) (at v next : ℕ) : Type 0 where
+  pub small : v < 2 ^ 32
+  pub spelled : drop at text ≡ digits v ++ drop next text
+  pub place : next ≡ at + length (digits v)
+
+module _ {text : List ℕ} {at : ℕ} where
+  -- the first digit alone
+  pub passed-first : {d : ℕ} → Digit text at d → Passed text at d (at + 1)
+  passed-first {d} g =
+      let e = digits-one d (g .small) in
+      record { small = omega (arith, g .small); spelled = rw e (g .there); place = rw e }
+
+  -- the digits passed and one digit more
+  longer : {v next d : ℕ} → Passed text at v next → Digit text next d
+      → drop at text ≡ (digits v ++ ((48 + d) ∷ [])) ++ drop (next + 1) text
+  longer p g = p .spelled ∙ rw (g .there, append-assoc)
+
+  -- a digit more, where it makes no leading zero and the number stays small
+  pub passed-more : {v next d : ℕ} → Passed text at v next → Digit text next d → (v ≡ 0 → ⊥) → v * 10 + d < 2 ^ 32
+      → Passed text at (v * 10 + d) (next + 1)
+  passed-more {v} {next} {d} p g pos small =
+      let e = digits-snoc v d (omega arith) (g .small) in
+      record {
+        small = small;
+        spelled = rw e (longer p g);
+        place = rw e (omega (arith, length-append (digits v) ((48 + d) ∷ []), p .place));
+      }
+
+  -- no digit more: the number stands there
+  pub passed-ends : {v next : ℕ} → Passed text at v next → beginsWithDigit (drop next text) ≡ false → Stands text at v next
+  passed-ends p e = record { small = p .small; spelled = p .spelled; ended = e; place = p .place }
+
+  -- ---- no number stands there
+
+  -- where no digit stands
+  pub no-digit : beginsWithDigit (drop at text) ≡ false → (w n : ℕ) → Stands text at w n → ⊥
+  no-digit e w n s = true≢false (sym (begins-number w (drop n text)) ∙ sym (ap beginsWithDigit (s .spelled)) ∙ e)
+
+  -- a number that stands there begins with the digits passed and one digit more
+  begins : {v next d w n : ℕ} → Passed text at v next → Digit text next d → Stands text at w n
+      → (more : List ℕ) × (digits w ≡ (digits v ++ ((48 + d) ∷ [])) ++ more)
+  begins {v} {next} {d} {w} {n} p g s =
+      run-prefix (digits v ++ ((48 + d) ∷ [])) (digits w) _ (drop n text)
+      (all-append (digits v) _ (digits-all v) (is-digit (48 + d) (omega arith) (omega (arith, g .small)), tt))
+      (s .ended)
+      (sym (longer p g) ∙ s .spelled)
+
+  -- where a digit follows 0
+  pub leading-zero : {v next d : ℕ} → Passed text at v next → Digit text next d → v ≡ 0 → (w n : ℕ) → Stands text at w n → ⊥
+  leading-zero {v} {next} {d} p g z w n s =
+      let (more, e) = begins p g s in
+      let f : digits w ≡ (48 + v) ∷ (48 + d) ∷ more = e ∙ rw (digits-one v (omega arith)) refl in
+      digits-numeral w .first (omega (arith, ap length f)) (ap (λ l. getD l 0 0) f ∙ omega arith)
+
+  -- where the digits passed and one digit more are too large
+  pub too-large : {v next d : ℕ} → Passed text at v next → Digit text next d → 2 ^ 32 ≤ v * 10 + d → (w n : ℕ) → Stands text at w n → ⊥
+  too-large {v} {next} {d} p g h w n s =
+      let (more, e) = begins p g s in
+      omega (arith, value-snoc v d, value-prefix w (digits v ++ ((48 + d) ∷ [])) more e, s .small)

@@ -1,0 +1,5 @@
+pub mod Bridge
+pub mod Sequence
+pub mod Found
+pub mod Proposition
+pub mod Theorems

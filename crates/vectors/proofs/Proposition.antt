@@ -1,0 +1,126 @@
+-- 002's first proposition over the integers, as it is worded there: the pair is a basis of the lattice, and its second half.
+-- Where there is no pair, the window's hits. Assumes nothing.
+use Prim.Native.Nat.{ℕ, zero, suc, _+_, _-_, _*_, _/_, _%_, _≤_, _<_, _∣_}
+use mathlib.Core.Path.{_≡_, refl, sym, ap, ap₂, subst, subst₂, _∙_}
+use mathlib.Core.Logic.{_↔_}
+use native.Mathlib.Nat.{mul-div-cancel'}
+use native.Mathlib.Omega.{arith}
+use lib.IntN.{ℤ, pos, negℤ, natAbs, _+ℤ_, _-ℤ_, _*ℤ_, +ℤ-idl}
+use lib.Signed.{_≤ℤ_, _<ℤ_}
+use Rattle.signed.proofs.Parts.{parts, up, dn, sum, product, neg-up, neg-dn, apart}
+use Rattle.signed.proofs.Difference.{Is, of, int, diff, diff-parts, differences}
+use Rattle.signed.proofs.Divides.{divides-apart}
+use Rattle.lattice.specs.Gcd.{IsGcd}
+use Rattle.lattice.proofs.Congruence.{Cong, cong-iff-mod}
+use Rattle.lattice.proofs.Differences.{Go}
+use Rattle.lattice.proofs.Law.{Steps}
+use Rattle.lattice.proofs.Next.{single-place, period}
+use Rattle.lattice.proofs.Pair.{Pair, extent}
+use Rattle.lattice.proofs.Span.{Combined, combined}
+use Rattle.lattice.proofs.Unique.{pair-steps}
+use Rattle.vectors.specs.declared.Vector.{Vector}
+use Rattle.vectors.specs.Vectors.{InLattice, IsPair}
+use Rattle.vectors.proofs.Bridge.{leftward, rightward, Magnitudes, magnitudes}
+
+-- a vector of the lattice leads from distance d to distance e, e - d being its offset
+pub lies-go : (p r : ℕ) (v : Vector) (d e : ℕ) → v .offset +ℤ pos d ≡ pos e → InLattice p r v ↔ Go p r d (v .line) e
+unfolding InLattice
+lies-go p r v d e h =
+    let x = pos (r * v .line) in
+    let y = v .offset in
+    let same : x +ℤ pos e ≡ y +ℤ pos (d + r * v .line) = omega (arith, parts, sum x (pos e), sum y (pos (d + r * v .line)), sum y (pos d)) in
+    let q = divides-apart p (d + r * v .line) e x y same in
+    let c = cong-iff-mod p e (d + r * v .line) in
+    (λ l. record { cong = c .1 (sym (q .0 l)) }, λ g. q .1 (sym (c .0 (g .cong))))
+
+-- v is k times the vector that leads left and l times the one that leads right, neither less than 0 times
+pub record Sum (left right v : Vector) : Type 0 where
+  pub k : ℕ
+  pub l : ℕ
+  pub offset : v .offset ≡ (pos k *ℤ left .offset) +ℤ (pos l *ℤ right .offset)
+  pub line : v .line ≡ k * left .line + l * right .line
+
+signed-sum : (k l A C : ℕ) (i : ℤ) → up i + k * A ≡ dn i + l * C → i ≡ (pos k *ℤ negℤ (pos A)) +ℤ (pos l *ℤ pos C)
+signed-sum k l A C i e =
+    omega (
+      arith,
+      parts,
+      sum (pos k *ℤ negℤ (pos A)) (pos l *ℤ pos C),
+      product (pos k) (negℤ (pos A)),
+      product (pos l) (pos C),
+      neg-up (pos A),
+      neg-dn (pos A),
+      ap (λ x. k * x) (neg-up (pos A)),
+      ap (λ x. k * x) (neg-dn (pos A)),
+    )
+
+-- "If (i, j) satisfies -I < i < I and j ≥ 0, then (i, j) = k(α, β) + l(γ, δ) with k ≥ 0 and l ≥ 0."
+pub second-half : {p r I : ℕ} {left right : Vector} → IsPair p r I left right → (v : Vector) → InLattice p r v → negℤ (pos I) <ℤ v .offset → v .offset <ℤ pos I → Sum left right v
+second-half {p} {r} {I} {left} {right} h v lies low high =
+    let m = magnitudes h in
+    let i = v .offset in
+    let e : i +ℤ pos (dn i) ≡ pos (up i) = omega (arith, parts, sum i (pos (dn i))) in
+    let way = lies-go p r v (dn i) (up i) e .0 lies in
+    let w = extent (m .pair) in
+    let s = pair-steps (m .pair) (omega (arith, parts, apart i, neg-up (pos I), neg-dn (pos I))) (omega (arith, parts, apart i)) way in
+    subst₂ (λ a b. Sum a b v) (sym (m .left-is)) (sym (m .right-is))
+    (record { k = s .lefts; l = s .rights; offset = signed-sum (s .lefts) (s .rights) (m .A) (m .C) i (s .place); line = s .lines })
+
+-- (i, j) is k times the one vector and l times the other, whole numbers of times
+pub record Whole (left right : Vector) (i j : ℤ) : Type 0 where
+  pub k : ℤ
+  pub l : ℤ
+  pub offset : i ≡ (k *ℤ left .offset) +ℤ (l *ℤ right .offset)
+  pub line : j ≡ (k *ℤ pos (left .line)) +ℤ (l *ℤ pos (right .line))
+
+whole-place : (k k′ l l′ A C : ℕ) {i : ℤ} → Is i → up i + k * A + l′ * C ≡ dn i + k′ * A + l * C → i ≡ (diff k k′ *ℤ negℤ (pos A)) +ℤ (diff l l′ *ℤ pos C)
+whole-place k k′ l l′ A C (of a b) e = simp differences (omega (arith, diff-parts a b))
+
+whole-line : (k k′ l l′ β δ : ℕ) {j : ℤ} → Is j → up j + k′ * β + l′ * δ ≡ dn j + k * β + l * δ → j ≡ (diff k k′ *ℤ pos β) +ℤ (diff l l′ *ℤ pos δ)
+whole-line k k′ l l′ β δ (of a b) e = simp differences (omega (arith, diff-parts a b))
+
+-- "(so they are a basis)": every point of the lattice, on whatever line, is a whole combination of the pair.
+pub pair-is-basis : {p r I : ℕ} {left right : Vector} → IsPair p r I left right → (i j : ℤ) → p ∣ natAbs ((pos r *ℤ j) -ℤ i) → Whole left right i j
+pair-is-basis {p} {r} {I} {left} {right} h i j lies =
+    let m = magnitudes h in
+    let a = dn i + r * up j in
+    let b = up i + r * dn j in
+    let same : (pos r *ℤ j) +ℤ pos b ≡ i +ℤ pos a = omega (arith, parts, sum (pos r *ℤ j) (pos b), sum i (pos a), product (pos r) j) in
+    let cong : Cong p b a = cong-iff-mod p b a .1 (sym (divides-apart p a b (pos r *ℤ j) i same .0 lies)) in
+    let w = extent (m .pair) in
+    let s = combined (dn i) (up j) (up i) (dn j) (omega arith) (m .pair .basis) cong in
+    subst₂ (λ v w. Whole v w i j) (sym (m .left-is)) (sym (m .right-is))
+    (record {
+      k = diff (s .k) (s .k′);
+      l = diff (s .l) (s .l′);
+      offset = whole-place (s .k) (s .k′) (s .l) (s .l′) (m .A) (m .C) (int i) (s .place);
+      line = whole-line (s .k) (s .k′) (s .l) (s .l′) (left .line) (right .line) (int j) (s .lines);
+    })
+
+-- "the only hits in the window are at offset 0, on multiples of p/g"
+pub only-zero : {p r I g : ℕ} → 0 < p → IsGcd g r p → I ≤ g → (v : Vector) → negℤ (pos (I / 2)) ≤ℤ v .offset → v .offset <ℤ pos (I / 2) → InLattice p r v ↔ ((v .offset ≡ pos 0) × (p / g ∣ v .line))
+only-zero {p} {r} {I} {g} some is wide v low high = (to, from)
+  where
+    at : v .offset +ℤ pos (I / 2) ≡ pos (up (v .offset +ℤ pos (I / 2)))
+    at = omega (arith, parts, sum (v .offset) (pos (I / 2)), apart (v .offset +ℤ pos (I / 2)), neg-up (pos (I / 2)), neg-dn (pos (I / 2)))
+
+    -- the middle of the window, and where v leads from there, lie in the window
+    middle : I / 2 < I
+    middle = omega (arith, parts, neg-up (pos (I / 2)), neg-dn (pos (I / 2)))
+
+    within : up (v .offset +ℤ pos (I / 2)) < I
+    within = omega (arith, parts, at, sum (v .offset) (pos (I / 2)))
+
+    lines : Go p r (I / 2) (v .line) (I / 2) ↔ (p / g ∣ v .line)
+    lines = period (p / g) (I / 2) (v .line) some is (mul-div-cancel' g (is .divides-right))
+
+    to : InLattice p r v → (v .offset ≡ pos 0) × (p / g ∣ v .line)
+    to lies =
+        let way = lies-go p r v (I / 2) (up (v .offset +ℤ pos (I / 2))) at .0 lies in
+        let stays : up (v .offset +ℤ pos (I / 2)) ≡ I / 2 = single-place is wide middle within way in
+        (omega (arith, parts, at, sum (v .offset) (pos (I / 2))), lines .0 (subst (λ x. Go p r (I / 2) (v .line) x) stays way))
+
+    from : (v .offset ≡ pos 0) × (p / g ∣ v .line) → InLattice p r v
+    from h =
+        let z = h .0 in
+        lies-go p r v (I / 2) (I / 2) (rw z (+ℤ-idl (pos (I / 2)))) .1 (lines .1 (h .1))

@@ -1,0 +1,156 @@
+-- A step of the division sequence: what u plus q times v is, and that every number on the way fits.
+-- Measure of the sequence: the size of v's offset, which falls. Assumes nothing.
+use mathlib.Core.Path.{_≡_, refl, sym, ap, _∙_, subst}
+use Prim.Native.Nat.{ℕ, zero, suc, _+_, _-_, _*_, _/_, _%_, _^_, _≤_, _<_}
+use native.Mathlib.Nat.{div-add-mod', div-mul-le-self, mod-lt}
+use native.Mathlib.Omega.{arith}
+use lib.IntN.{ℤ, pos, negℤ, natAbs, _+ℤ_, _*ℤ_}
+use mir.Syntax.{w64}
+use mir.Val.{SFits, Fits}
+use Rattle.signed.proofs.Parts.{parts, neg-up, neg-dn}
+use Rattle.signed.proofs.Difference.{differences}
+use Rattle.lattice.proofs.Multiples.{Rest, rest}
+use Rattle.lattice.proofs.Stage.{Side, left, right, other, Stage, bounds, slide-bound}
+use Rattle.lattice.proofs.Stage as Stage
+use Rattle.vectors.specs.declared.Vector.{Vector}
+use Rattle.vectors.specs.declared.Turn.{Turn}
+use Rattle.vectors.specs.Sequence.{plusTimes, nextOf, partnerOf, toward, Moves, Successive, Reaches, Ready, Stopped, Open}
+
+abs-toward : (s : Side) (n : ℕ) → natAbs (toward s n) ≡ n
+abs-toward left zero = refl
+abs-toward left (suc n) = refl
+abs-toward right n = refl
+
+-- the size of the offset of a vector that moves n
+pub size-of : {s : Side} {n c : ℕ} {v : Vector} → Moves s n c v → natAbs (v .offset) ≡ n
+size-of {s} {n} h = ap natAbs (h .offset) ∙ abs-toward s n
+
+-- a step to the other side, q times m, leaves k of n
+leftward : (n m q k : ℕ) → n ≡ q * m + k → pos n +ℤ pos q *ℤ negℤ (pos m) ≡ pos k
+leftward n m q k e = simp differences (omega arith)
+
+rightward : (n m q k : ℕ) → n ≡ q * m + k → negℤ (pos n) +ℤ pos q *ℤ pos m ≡ negℤ (pos k)
+rightward n m q k e = simp differences (omega arith)
+
+slid : (s : Side) (n m q k : ℕ) → n ≡ q * m + k → toward (other s) n +ℤ pos q *ℤ toward s m ≡ toward (other s) k
+slid left n m q k e = leftward n m q k e
+slid right n m q k e = rightward n m q k e
+
+-- u plus q times v moves what is left of n
+pub moved : {p r : ℕ} {u v : Vector} (h : Successive p r u v) (q k : ℕ) → h .n ≡ q * h .m + k → Moves (other (h .side)) k (h .b + q * h .c) (plusTimes u q v)
+moved h q k e = record {
+  offset = simp (h .before .offset, h .last .offset) (slid (h .side) (h .n) (h .m) q k e);
+  line = simp (h .before .line, h .last .line);
+}
+
+twice : (s : Side) {n c : ℕ} {w : Vector} → Moves s n c w → Moves (other (other s)) n c w
+twice left k = k
+twice right k = k
+
+some : {p r : ℕ} {u v : Vector} (h : Successive p r u v) → 0 < natAbs (v .offset) → 0 < h .m
+some h l = rw (size-of (h .last)) at l
+
+-- the quotient of the sizes leaves the remainder
+quotient : {p r : ℕ} {u v : Vector} (h : Successive p r u v) → h .n ≡ natAbs (u .offset) / natAbs (v .offset) * h .m + h .n % h .m
+quotient h = rw (size-of (h .before), size-of (h .last)) (sym (div-add-mod' (h .n) (h .m)))
+
+-- v and the next vector are successive again
+pub onward : {p r : ℕ} {u v : Vector} → Successive p r u v → 0 < natAbs (v .offset) → Successive p r v (nextOf u v)
+onward {p} {r} {u} {v} h l =
+    let q = natAbs (u .offset) / natAbs (v .offset) in
+    let k = h .n % h .m in
+    record {
+      side = other (h .side);
+      n = h .m;
+      m = k;
+      b = h .c;
+      c = h .b + q * h .c;
+      stage = Stage.next-with q k (h .stage) (quotient h) (mod-lt (h .n) (some h l));
+      before = twice (h .side) (h .last);
+      last = moved h q k (quotient h);
+    }
+
+-- the size of the offset falls
+pub falls : {p r : ℕ} {u v : Vector} → Successive p r u v → natAbs (v .offset) < natAbs (u .offset)
+falls h = rw (size-of (h .before), size-of (h .last)) (h .stage .falls)
+
+-- ---- every number of a step fits
+
+fits-toward : (s : Side) (n : ℕ) → n < 2 ^ 63 → SFits w64 (toward s n)
+fits-toward left n h = omega (arith, parts, neg-up (pos n), neg-dn (pos n))
+fits-toward right n h = omega (arith, parts)
+
+held : {s : Side} {n c p : ℕ} {v : Vector} → Moves s n c v → n ≤ p → p < 2 ^ 31 → SFits w64 (v .offset)
+held {s} {n} h k small = rw (h .offset) (fits-toward s n (omega arith))
+
+pub held-last : {p r : ℕ} {u v : Vector} → Successive p r u v → p < 2 ^ 31 → SFits w64 (v .offset)
+held-last h small =
+    let b = bounds (h .stage) in
+    let falls = h .stage .falls in
+    held (h .last) (omega arith) small
+
+pub held-before : {p r : ℕ} {u v : Vector} → Successive p r u v → p < 2 ^ 31 → SFits w64 (u .offset)
+held-before h small = held (h .before) (bounds (h .stage) .distance) small
+
+times-toward : (s : Side) (q m : ℕ) → pos q *ℤ toward s m ≡ toward s (q * m)
+times-toward left q m = leftward-times q m
+  where
+    leftward-times : (q m : ℕ) → pos q *ℤ negℤ (pos m) ≡ negℤ (pos (q * m))
+    leftward-times q m = simp differences (omega arith)
+times-toward right q m = refl
+
+pub record Fitting (u : Vector) (q : ℕ) (v : Vector) : Type 0 where
+  pub before : SFits w64 (u .offset)
+  pub last : SFits w64 (v .offset)
+  pub next : SFits w64 (plusTimes u q v .offset)
+  pub divisor : 0 < natAbs (v .offset)
+  pub times : q < 2 ^ 31
+  pub product : SFits w64 (pos q *ℤ v .offset)
+  pub lines : u .line + q * v .line < 2 ^ 31
+
+many : {q m : ℕ} → 0 < m → q ≤ q * m
+many {q} {m = suc m} h = omega (arith, native.Mathlib.Nat.mul-suc q m)
+many {q} {m = zero} h = absurd (omega arith)
+
+pub fitting : {u v : Vector} {q : ℕ} → Reaches u q v → Fitting u q v
+fitting {u} {v} {q} h =
+    let here = bounds (h .at .stage) in
+    let small = h .small in
+    let m-some = some (h .at) (h .some) in
+    let reach : q * h .at .m ≤ h .at .n = rw (size-of (h .at .before), size-of (h .at .last)) at (h .reach) in
+    let e : h .at .n ≡ q * h .at .m + (h .at .n - q * h .at .m) = omega arith in
+    let lines = slide-bound q (h .at .n - q * h .at .m) (h .at .stage) m-some e in
+    let few = many {q = q} m-some in
+    record {
+      before = held-before (h .at) small;
+      last = held-last (h .at) small;
+      next = held (moved (h .at) q (h .at .n - q * h .at .m) e) (omega arith) small;
+      divisor = h .some;
+      times = omega arith;
+      product = simp (h .at .last .offset, times-toward) (fits-toward (h .at .side) (q * h .at .m) (omega arith));
+      lines = rw (h .at .before .line, h .at .last .line) (omega arith);
+    }
+
+-- ---- what may follow
+
+-- the quotient of the sizes reaches no further
+pub reaches-next : {u v : Vector} → Reaches u 0 v → Reaches u (natAbs (u .offset) / natAbs (v .offset)) v
+reaches-next {u} {v} h = record { p = h .p; r = h .r; at = h .at; small = h .small; some = h .some; reach = div-mul-le-self (natAbs (u .offset)) (natAbs (v .offset)) }
+
+-- past the window there is a next vector
+pub goes-on : {window : ℕ} {u v : Vector} → Ready window u v → window ≤ natAbs (v .offset) → Reaches u 0 v
+goes-on {window} {u} {v} h past =
+    let width = h .width in
+    record { p = h .p; r = h .r; at = h .at; small = h .small; some = omega arith; reach = omega arith }
+
+-- and it may be gone on from
+pub ready : {window : ℕ} {u v : Vector} → Ready window u v → window ≤ natAbs (v .offset) → Ready window v (nextOf u v)
+ready h past = record { p = h .p; r = h .r; at = onward (h .at) (goes-on h past .some); small = h .small; width = h .width; past = past }
+
+-- the partner's multiple of the last vector reaches no further than the one before
+pub reaches-partner : {window : ℕ} {u v : Vector} → Open window u v → Reaches u ((natAbs (u .offset) - window) / natAbs (v .offset) + 1) v
+reaches-partner {window} {u} {v} h =
+    let within = h .within in
+    let q = rest {n = natAbs (u .offset)} {m = natAbs (v .offset)} {W = window} (h .some) (omega arith) (h .past) in
+    let e = q .sum in
+    record { p = h .p; r = h .r; at = h .at; small = h .small; some = h .some; reach = omega arith }

@@ -1,0 +1,3 @@
+pub mod Vectors
+pub mod Promise
+pub mod Sequence

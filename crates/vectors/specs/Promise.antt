@@ -1,0 +1,49 @@
+-- Document 01: what the vectors call replies, for every period, remainder and window.
+use Prim.Native.Nat.{ℕ, _≤_, _<_}
+use mathlib.Core.Path.{_≡_}
+use mathlib.Core.Option.{Option, some, none}
+use lib.Dec.{ltb, leb}
+use Rattle.scope.specs.Refusal.{Complaint, Tests, _when_, _andThen_, Remainder, WiderThanPeriod, complaint, number, windowTests, periodTests}
+use Rattle.scope.specs.Reply.{Said, refused, answered}
+use Rattle.vectors.specs.declared.Vector.{Vector}
+use Rattle.vectors.specs.declared.Basis.{Basis}
+use Rattle.vectors.specs.declared.Basis.the-variants.{Two, One}
+use Rattle.vectors.specs.declared.Steps.{Steps}
+use Rattle.vectors.specs.declared.Steps.the-variants.{Pair, Single, Refused}
+use Rattle.vectors.specs.Vectors.{IsPair, IsSingle}
+
+-- "Order. Vectors: 1, 4, 5, 6." "5: r ≥ p", "6: I > p".
+unfoldable pub vectorsTests : ℕ → ℕ → ℕ → Tests
+vectorsTests p r I =
+    windowTests I andThen
+    periodTests p andThen
+    Remainder when leb p r andThen
+    WiderThanPeriod when ltb p I
+
+-- What `find_basis` is asked with: a remainder below the period and a window no wider than it.
+pub record Askable (p r I : ℕ) : Type 0 where
+  pub remainder : r < p
+  pub some : 1 ≤ I
+  pub window : I ≤ p
+  pub small : p ≤ 2147483647
+
+-- What a basis has to be: the pair, or the single vector where there is no pair.
+abbrev pub Spans : ℕ → ℕ → ℕ → Basis → Type 0
+Spans p r I (Two left right) = IsPair p r I left right
+Spans p r I (One v) = IsSingle p r I v
+
+-- 01's number and vectors for each case of the reply.
+abbrev pub says : Steps → Said Basis
+says (Pair left right) = answered (Two left right)
+says (Single only) = answered (One only)
+says (Refused number) = refused number
+
+-- "three kinds of reply": with a complaint the refusal and its number, with none the pair or the single vector.
+abbrev pub Admits : Option Complaint → ℕ → ℕ → ℕ → Said Basis → Type 0
+Admits (some c) p r I said = said ≡ refused (number (c .reason))
+Admits none p r I (answered basis) = Spans p r I basis
+Admits none p r I (refused n) = ⊥
+
+-- The promise of the vectors call.
+unfoldable pub VectorsPromise : ℕ → ℕ → ℕ → Steps → Type 0
+VectorsPromise p r I steps = Admits (complaint (vectorsTests p r I)) p r I (says steps)

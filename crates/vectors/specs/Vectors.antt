@@ -1,0 +1,33 @@
+-- Document 01, "Step vectors": the lattice, the pair and the single vector.
+use Prim.Native.Nat.{ℕ, _*_, _/_, _≤_, _<_, _∣_}
+use mathlib.Core.Path.{_≡_}
+use lib.IntN.{ℤ, pos, negℤ, natAbs, _-ℤ_, _*ℤ_}
+use lib.Signed.{_≤ℤ_, _<ℤ_}
+use Rattle.lattice.specs.Gcd.{IsGcd}
+use Rattle.vectors.specs.declared.Vector.{Vector}
+
+-- "i ≡ r·j (mod p), the lattice of source document 002": p divides r·j - i.
+unfoldable pub InLattice : ℕ → ℕ → Vector → Type 0
+InLattice p r v = p ∣ natAbs (pos (r * v .line) -ℤ v .offset)
+
+-- "Pair (α, β), (γ, δ): both lie in the lattice, β > 0, δ > 0, -I < α ≤ 0 ≤ γ < I, γ - α ≥ I, and β·γ - α·δ = p".
+-- `left` is (α, β) and `right` is (γ, δ).
+pub record IsPair (p r I : ℕ) (left right : Vector) : Type 0 where
+  pub left-in : InLattice p r left
+  pub right-in : InLattice p r right
+  pub left-rises : 0 < left .line
+  pub right-rises : 0 < right .line
+  pub left-low : negℤ (pos I) <ℤ left .offset
+  pub left-high : left .offset ≤ℤ pos 0
+  pub right-low : pos 0 ≤ℤ right .offset
+  pub right-high : right .offset <ℤ pos I
+  pub apart : pos I ≤ℤ (right .offset -ℤ left .offset)
+  pub area : (pos (left .line) *ℤ right .offset) -ℤ (left .offset *ℤ pos (right .line)) ≡ pos p
+
+-- "Single: no pair exists exactly when g ≥ I. The reply is then (0, p/g)".
+pub record IsSingle (p r I : ℕ) (v : Vector) : Type 0 where
+  pub g : ℕ
+  pub is-gcd : IsGcd g r p
+  pub wide : I ≤ g
+  pub at-zero : v .offset ≡ pos 0
+  pub rises : v .line ≡ p / g
