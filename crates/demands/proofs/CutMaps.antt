@@ -1,0 +1,54 @@
+-- The maps of a cut's blocks: each block is a valid run, each map as long as its block, and together they are as long as the
+-- run's. Assumes nothing.
+use Prim.Native.Nat.{ℕ, zero, suc, _+_, _-_, _*_, _≤_, _<_}
+use native.Mathlib.Omega.{arith}
+use mathlib.Core.Path.{_≡_, refl, sym, ap, _∙_}
+use mathlib.Core.List.{List, [], _∷_}
+use lib.ListN.{length, getD, length-append}
+use Rattle.scope.specs.declared.Run.{Run}
+use Rattle.scope.specs.Run.{Valid, linesOf, cellsOf}
+use Rattle.scope.proofs.Numbering.{valid-block}
+use Rattle.demands.specs.Cut.{CutFrom, Cut}
+use Rattle.demands.specs.Adding.{together, Maps}
+use Rattle.demands.proofs.Cuts.{piece-is, before, before-first, before-piece, before-next}
+
+module _ (run : Run) where
+  block-at : Valid run → (line : ℕ) (blocks : List Run) → run .first ≤ line → CutFrom run line blocks → (k : ℕ) → k < length blocks → Valid (getD blocks k run)
+  block-at v line [] low c k h = absurd (omega arith)
+  block-at v line (block ∷ blocks) low c zero h = valid-block v (piece-is run blocks low c) (c .0 .ordered)
+  block-at v line (block ∷ blocks) low c (suc k) h = let p = c .0 in block-at v (suc (block .last)) blocks (omega arith) (c .1) k (omega arith)
+
+  -- the block at each place is a valid run
+  pub valid-at : Valid run → (blocks : List Run) → Cut run blocks → (k : ℕ) → k < length blocks → Valid (getD blocks k run)
+  valid-at v blocks c = block-at v (run .first) blocks (omega arith) c
+
+  -- the maps are as many as the blocks, each as long as its block
+  pub maps-length : (blocks : List Run) (maps : List (List ℕ)) → Maps blocks maps → length maps ≡ length blocks
+  maps-length [] [] s = refl
+  maps-length [] (map ∷ maps) s = absurd s
+  maps-length (block ∷ blocks) [] s = absurd s
+  maps-length (block ∷ blocks) (map ∷ maps) s = ap suc (maps-length blocks maps (s .1))
+
+  pub map-at : (blocks : List Run) (maps : List (List ℕ)) → Maps blocks maps → (k : ℕ) → k < length blocks → length (getD maps k []) ≡ cellsOf (getD blocks k run)
+  map-at [] maps s k h = absurd (omega arith)
+  map-at (block ∷ blocks) [] s k h = absurd s
+  map-at (block ∷ blocks) (map ∷ maps) s zero h = s .0
+  map-at (block ∷ blocks) (map ∷ maps) s (suc k) h = map-at blocks maps (s .1) k (omega arith)
+
+  -- the cells before a line and those of the block there are the cells before the next block
+  pub before-on : (line : ℕ) (block : Run) (blocks : List Run) → run .first ≤ line → CutFrom run line (block ∷ blocks) → before run (suc (block .last)) ≡ before run line + cellsOf block
+  before-on line block blocks low c = before-next (piece-is run blocks low c) (c .0 .ordered) ∙ ap (λ n. n + cellsOf block) (sym (before-piece (c .0)))
+
+  rest-cells : (line : ℕ) (blocks : List Run) (maps : List (List ℕ)) → run .first ≤ line → CutFrom run line blocks → Maps blocks maps → length (together maps) + before run line ≡ cellsOf run
+  unfolding before cellsOf linesOf
+  rest-cells line [] [] low c s = let end = ap (λ n. (n - run .first) * run .window) c in omega arith
+  rest-cells line [] (map ∷ maps) low c s = absurd s
+  rest-cells line (block ∷ blocks) [] low c s = absurd s
+  rest-cells line (block ∷ blocks) (map ∷ maps) low c s =
+      let p = c .0 in
+      let more = rest-cells (suc (block .last)) blocks maps (omega arith) (c .1) (s .1) in
+      omega (arith, more, before-on line block blocks low c, length-append map (together maps), s .0)
+
+  -- the blocks' cells are the run's
+  pub cut-cells : Valid run → (blocks : List Run) (maps : List (List ℕ)) → Cut run blocks → Maps blocks maps → length (together maps) ≡ cellsOf run
+  cut-cells v blocks maps c s = omega (arith, rest-cells (run .first) blocks maps (omega arith) c s, before-first run)

@@ -1,0 +1,119 @@
+-- Demand 2: "For each period, remainder below it and window no wider than it, the step vectors are those of Franke and
+-- Kleinjung's first proposition, or the single vector where no such pair exists." Assumes nothing.
+use Prim.Native.Nat.{ℕ, _/_, _%_, _≤_, _<_, _∣_}
+use native.Mathlib.Omega.{arith}
+use mathlib.Core.Path.{_≡_, ap, _∙_}
+use mathlib.Core.Logic.{_↔_, Iff·trans}
+use mathlib.Core.Option.{none}
+use lib.IntN.{ℤ, pos, negℤ, natAbs, _+ℤ_, _-ℤ_, _*ℤ_}
+use lib.Signed.{_≤ℤ_, _<ℤ_}
+use borrow.Author.Tests.{lt-leb, le-ltb, ne-eqb}
+use Rattle.lattice.specs.Gcd.{IsGcd}
+use Rattle.lattice.proofs.Gcd.{gcd-unique}
+use Rattle.lattice.proofs.Differences.{go-mod}
+use Rattle.signed.proofs.Parts.{parts, up, dn, sum, neg-up, neg-dn}
+use Rattle.scope.specs.declared.Run.{Run}
+use Rattle.scope.specs.declared.Source.{Source}
+use Rattle.scope.specs.Run.{Valid, lineOf}
+use Rattle.scope.specs.Hit.{Hits, instant}
+use Rattle.scope.specs.Refusal.{periodTests}
+use Rattle.scope.proofs.Judged.{Passes, both, sound}
+use Rattle.scope.proofs.Limits.{valid-window-passes}
+use Rattle.scope.proofs.Hits.{hit-hits, one-hit-on-line}
+use Rattle.vectors.specs.declared.Vector.{Vector}
+use Rattle.vectors.specs.declared.Steps.{Steps}
+use Rattle.vectors.specs.declared.Steps.the-variants.{Pair, Single, Refused}
+use Rattle.vectors.specs.Vectors.{InLattice, IsPair, IsSingle}
+use Rattle.vectors.specs.Promise.{vectorsTests, says, Admits, VectorsPromise}
+use Rattle.vectors.proofs.Theorems as Theorems
+use Rattle.vectors.proofs.Theorems.{APair}
+use Rattle.vectors.proofs.Proposition as Proposition
+use Rattle.vectors.proofs.Proposition.{Sum, Whole}
+use Rattle.demands.specs.FirstHit.{HitsCell}
+use Rattle.demands.specs.StepVectors.{Asked, StepVectors}
+
+-- what the demand asks with passes the tests
+accepted : {p r I : ℕ} → Asked p r I → Passes (vectorsTests p r I)
+unfolding vectorsTests periodTests
+accepted {p} {r} {I} a =
+    both (both (both (valid-window-passes (record { even = a .even; narrow = a .narrow; wide = a .wide }))
+    (both (sound (ne-eqb p 0 (λ e. omega arith))) (sound (le-ltb 2147483647 p (a .period))))) (sound (lt-leb p r (a .remainder)))) (sound (le-ltb p I (a .fits)))
+
+single-is : {p r I g : ℕ} {v : Vector} → IsGcd g r p → IsSingle p r I v ↔ ((I ≤ g) × (v ≡ record { offset = pos 0; line = p / g }))
+single-is {p} {r} {I} {g} {v} is = (to, from)
+  where
+    to : IsSingle p r I v → (I ≤ g) × (v ≡ record { offset = pos 0; line = p / g })
+    to s =
+        let same : s .g ≡ g = gcd-unique (s .is-gcd) is in
+        let rises : v .line ≡ p / g = s .rises ∙ ap (λ n. p / n) same in
+        let at-zero = s .at-zero in
+        (omega (arith, s .wide), λ i. record { offset = at-zero i; line = rises i })
+
+    from : (I ≤ g) × (v ≡ record { offset = pos 0; line = p / g }) → IsSingle p r I v
+    from h = record { g = g; is-gcd = is; wide = h .0; at-zero = ap (λ (w : Vector). w .offset) (h .1); rises = ap (λ (w : Vector). w .line) (h .1) }
+
+admits-is : {p r g : ℕ} (I : ℕ) → IsGcd g r p → (steps : Steps) → Admits none p r I (says steps) ↔ StepVectors p r I g steps
+admits-is I is (Pair left right) = (λ h. h, λ h. h)
+admits-is I is (Single v) = single-is is
+admits-is I is (Refused n) = (λ h. h, λ h. h)
+
+-- "the step vectors are those of Franke and Kleinjung's first proposition, or the single vector": a reply fits the promise
+-- exactly if it is these.
+pub vectors-are : (p r I g : ℕ) → Asked p r I → IsGcd g r p → (steps : Steps) → VectorsPromise p r I steps ↔ StepVectors p r I g steps
+unfolding VectorsPromise
+vectors-are p r I g a is steps = rw (accepted a .is) (admits-is I is steps)
+
+-- "where no such pair exists": some pair meets the proposition's conditions exactly if g is less than the window.
+pub pair-exists : (p r I g : ℕ) → Asked p r I → IsGcd g r p → APair p r I ↔ (g < I)
+pair-exists p r I g a is = Theorems.pair-exactly-when (a .remainder) (a .fits) is
+
+-- "At most one such pair exists."
+pub one-pair : (p r I : ℕ) {left right left′ right′ : Vector} → IsPair p r I left right → IsPair p r I left′ right′ → (left ≡ left′) × (right ≡ right′)
+one-pair p r I h h′ = Theorems.one-pair h h′
+
+-- No second reply fits, whatever the input. And one does.
+pub vectors-unique : (p r I : ℕ) (a b : Steps) → VectorsPromise p r I a → VectorsPromise p r I b → a ≡ b
+vectors-unique = Theorems.vectors-unique
+
+pub vectors-some : (p r I : ℕ) → (steps : Steps) × VectorsPromise p r I steps
+vectors-some = Theorems.vectors-some
+
+-- "(so they are a basis)": every point of the lattice is a whole combination of the pair.
+pub pair-is-basis : (p r I : ℕ) {left right : Vector} → IsPair p r I left right → (i j : ℤ) → p ∣ natAbs ((pos r *ℤ j) -ℤ i) → Whole left right i j
+pair-is-basis p r I h = Proposition.pair-is-basis h
+
+-- 002's first proposition, second half: within -I < i < I no vector is taken less than 0 times.
+pub second-half : (p r I : ℕ) {left right : Vector} → IsPair p r I left right → (v : Vector) → InLattice p r v → negℤ (pos I) <ℤ v .offset → v .offset <ℤ pos I → Sum left right v
+second-half p r I h = Proposition.second-half h
+
+-- "the only hits in the window are at offset 0, on multiples of p/g", where the single vector is the reply.
+pub only-zero : (p r I g : ℕ) → Asked p r I → IsGcd g r p → I ≤ g → (v : Vector) → negℤ (pos (I / 2)) ≤ℤ v .offset → v .offset <ℤ pos (I / 2) → InLattice p r v ↔ ((v .offset ≡ pos 0) × (p / g ∣ v .line))
+only-zero p r I g a is wide = Proposition.only-zero (omega arith) is wide
+
+whole-lattice : (run : Run) (source : Source) (i : ℤ) (j : ℕ) → Hits run source i j ↔ InLattice (source .period) (run .interval) (record { offset = i; line = j })
+unfolding Hits InLattice instant
+whole-lattice run source i j = (λ h. h, λ h. h)
+
+-- "With r = T mod p this is i ≡ r·j (mod p)": a source hits a place exactly if the place lies in the lattice of p and T mod p.
+pub hits-lattice : (run : Run) (source : Source) (i : ℤ) (j : ℕ) → Hits run source i j ↔ InLattice (source .period) (run .interval % source .period) (record { offset = i; line = j })
+hits-lattice run source i j =
+    let p = source .period in
+    let T = run .interval in
+    let v : Vector = record { offset = i; line = j } in
+    let at : i +ℤ pos (dn i) ≡ pos (up i) = omega (arith, parts, sum i (pos (dn i))) in
+    let whole = Proposition.lies-go p T v (dn i) (up i) at in
+    let rest = Proposition.lies-go p (T % p) v (dn i) (up i) at in
+    Iff·trans (whole-lattice run source i j) (Iff·trans whole (Iff·trans (go-mod p T (dn i) j (up i)) (rest .1, rest .0)))
+
+-- "For p ≥ I there is at most one hit on a line."
+pub one-on-line : (run : Run) (source : Source) → Valid run → run .window ≤ source .period → (x y : ℕ) → HitsCell run source x → HitsCell run source y → lineOf run x ≡ lineOf run y → x ≡ y
+one-on-line run source v wide x y h k e = one-hit-on-line v source x y wide (hit-hits run source x .1 h) (hit-hits run source y .1 k) e
+
+-- 002's proposition 2, with A = -I/2: "add (α, β) if i ≥ A - α; add (γ, δ) if i < A + I - γ; add both otherwise. Just one case
+-- applies": the first two never apply together.
+pub one-case : (p r I : ℕ) {left right : Vector} → IsPair p r I left right → (i : ℤ) → (negℤ (pos (I / 2)) -ℤ left .offset) ≤ℤ i → i <ℤ (negℤ (pos (I / 2)) +ℤ pos I -ℤ right .offset) → ⊥
+one-case p r I {left} {right} h i first second =
+    let a = left .offset in
+    let c = right .offset in
+    let A = negℤ (pos (I / 2)) in
+    omega (arith, parts, h .apart, sum c (negℤ a), sum A (negℤ a), sum A (pos I), sum (A +ℤ pos I) (negℤ c), neg-up a, neg-dn a, neg-up c, neg-dn c)

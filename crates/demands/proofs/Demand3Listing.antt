@@ -1,0 +1,115 @@
+-- Demand 3, the listing: "Cut a run's lines into consecutive blocks, in whatever way, with the same window and interval, and
+-- list each source from the block's cell 0 with any room above nothing, going on where the listing stopped. Joined in line
+-- order, the lists hold every hit of that source in the run once, none besides, by line and then by offset."
+-- Assumes nothing.
+use Prim.Native.Nat.{ℕ, suc, _≤_, _<_, max}
+use native.Mathlib.Omega.{arith}
+use mathlib.Core.Path.{_≡_, refl, sym, _∙_, subst}
+use mathlib.Core.Logic.{_↔_}
+use mathlib.Core.List.{List, [], _∷_, List·Memᴰ, List·Memᴰ·head, List·Memᴰ·tail}
+use lib.ListN.{length}
+use lib.IntN.{ℤ}
+use Rattle.scope.specs.declared.Run.{Run}
+use Rattle.scope.specs.declared.Source.{Source}
+use Rattle.scope.specs.declared.RunCell.{RunCell}
+use Rattle.scope.specs.Run.{Valid, ValidSource, InRun, cellsOf, lineOf, offsetOf}
+use Rattle.scope.specs.Hit.{Hits, hitsFrom}
+use Rattle.scope.proofs.Limits.{window-cells}
+use Rattle.scope.proofs.Numbering.{cell-order, number-cell}
+use Rattle.scope.proofs.Hits.{Rising, hit-hits, hits-member, hits-rising, rising-same}
+use Rattle.hits.specs.declared.Listing.{Listing}
+use Rattle.hits.specs.declared.Listing.the-variants.{Done, More, Refused}
+use Rattle.hits.specs.Promise.{ListingPromise}
+use Rattle.demands.specs.Cut.{Cut}
+use Rattle.demands.specs.Listing.{Chain, callsOf, Lends, Answered, Listings, joined, InOrder, EveryHitOnce}
+use Rattle.demands.proofs.Chains.{chain-lists, few-calls, goes-inside, not-refused, chain-exists}
+use Rattle.demands.proofs.Cuts.{cut-valid}
+use Rattle.demands.proofs.CutHits.{blockHits, cut-hits}
+
+-- ---- the joined lists
+
+joined-blocks : (run : Run) (source : Source) (blocks : List Run) (lists : Listings source blocks) → joined run source blocks lists ≡ blockHits run source blocks
+joined-blocks run source [] lists = refl
+joined-blocks run source (block ∷ blocks) lists = rw (chain-lists (lists .0), joined-blocks run source blocks (lists .1))
+
+-- For every valid run, every cut of it and whatever chain of calls in each block: the joined lists are the list of the run's hits.
+pub joined-is : (run : Run) (source : Source) (blocks : List Run) → Valid run → Cut run blocks → (lists : Listings source blocks) → joined run source blocks lists ≡ hitsFrom run source 0
+joined-is run source blocks v cut lists = joined-blocks run source blocks lists ∙ cut-hits v source blocks cut
+
+-- a strictly rising list goes by line and then by offset
+in-order : {run : Run} → Valid run → (x : ℕ) (cells : List ℕ) → Rising x cells → InOrder run cells
+in-order v x [] r = tt
+in-order v x (y ∷ []) r = tt
+in-order v x (y ∷ z ∷ cells) r = (cell-order v y z .0 (omega arith), in-order v (suc y) (z ∷ cells) (r .1))
+
+-- The list of the run's hits is what it is called.
+pub every-hit-once : (run : Run) (source : Source) → Valid run → EveryHitOnce run source (hitsFrom run source 0)
+every-hit-once run source v = record {
+  order = in-order v 0 (hitsFrom run source 0) (hits-rising run source 0);
+  exactly = λ y. (
+    λ m. let h = hits-member run source 0 y .0 m in (h .1, hit-hits run source y .0 (h .2)),
+    λ h. hits-member run source 0 y .1 (omega arith, h .0, hit-hits run source y .1 (h .1)),
+  );
+}
+
+-- and back
+in-order-rises : {run : Run} → Valid run → (x : ℕ) (cells : List ℕ) → InOrder run (x ∷ cells) → Rising (suc x) cells
+in-order-rises v x [] o = tt
+in-order-rises v x (y ∷ cells) o = (cell-order v x y .1 (o .0), in-order-rises v y cells (o .1))
+
+in-order-rising : {run : Run} → Valid run → (cells : List ℕ) → InOrder run cells → Rising 0 cells
+in-order-rising v [] o = tt
+in-order-rising v (x ∷ cells) o = (omega arith, in-order-rises v x cells o)
+
+-- No other list is.
+pub every-hit-unique : (run : Run) (source : Source) → Valid run → (a b : List ℕ) → EveryHitOnce run source a → EveryHitOnce run source b → a ≡ b
+every-hit-unique run source v a b h k =
+    rising-same 0 a b (in-order-rising v a (h .order)) (in-order-rising v b (k .order))
+    (λ y. (λ m. k .exactly y .1 (h .exactly y .0 m), λ m. h .exactly y .1 (k .exactly y .0 m)))
+
+-- "Joined in line order, the lists hold every hit of that source in the run once, none besides, by line and then by offset."
+pub joined-holds : (run : Run) (source : Source) (blocks : List Run) → Valid run → Cut run blocks → (lists : Listings source blocks) → EveryHitOnce run source (joined run source blocks lists)
+joined-holds run source blocks v cut lists = subst (EveryHitOnce run source) (sym (joined-is run source blocks v cut lists)) (every-hit-once run source v)
+
+-- The same by places: a place of the run stands in the joined lists exactly if the source hits it.
+pub joined-places : (run : Run) (source : Source) (blocks : List Run) → Valid run → Cut run blocks → (lists : Listings source blocks) (i : ℤ) (j : ℕ) → InRun run i j → Hits run source i j ↔ ((y : ℕ) × List·Memᴰ y (joined run source blocks lists) × (offsetOf run y ≡ i) × (lineOf run y ≡ j))
+joined-places run source blocks v cut lists i j inside = (to, from)
+  where
+    holds : EveryHitOnce run source (joined run source blocks lists)
+    holds = joined-holds run source blocks v cut lists
+
+    to : Hits run source i j → (y : ℕ) × List·Memᴰ y (joined run source blocks lists) × (offsetOf run y ≡ i) × (lineOf run y ≡ j)
+    to h =
+        let c = number-cell v i j inside in
+        (c .cell, holds .exactly (c .cell) .1 (c .fits, rw (c .offset, c .line) h), c .offset, c .line)
+
+    from : (y : ℕ) × List·Memᴰ y (joined run source blocks lists) × (offsetOf run y ≡ i) × (lineOf run y ≡ j) → Hits run source i j
+    from h = rw (h .2, h .3) at (holds .exactly (h .0) .0 (h .1) .1)
+
+-- "The certificate then compares readings that don't belong together": not so. Two cuts, and whatever calls, have one list.
+pub joined-same : (run : Run) (source : Source) → Valid run → (blocks blocks′ : List Run) → Cut run blocks → Cut run blocks′ → (lists : Listings source blocks) (lists′ : Listings source blocks′) → joined run source blocks lists ≡ joined run source blocks′ lists′
+joined-same run source v blocks blocks′ c c′ lists lists′ = joined-is run source blocks v c lists ∙ sym (joined-is run source blocks′ v c′ lists′)
+
+-- ---- such lists exist
+
+-- "any room above nothing": for each supply of rooms there is a chain of calls that the rooms are lent to, with no more calls
+-- than hits, or one call if there is none.
+pub listing-exists : (block : Run) (source : Source) → Valid block → ValidSource source → (rooms : ℕ → List ℕ) → ((k : ℕ) → 1 ≤ length (rooms k)) → (chain : Chain block source (record { 0 = 0 })) × Lends rooms chain × (callsOf chain ≤ max 1 (length (hitsFrom block source 0)))
+listing-exists block source v w rooms above =
+    let c = chain-exists v w (record { 0 = 0 }) (omega (arith, window-cells v)) rooms above in
+    (c .chain, c .lends, few-calls (c .chain))
+
+-- No call of such a chain is refused, whichever outcome the promise admits: the first starts at a cell of the block, and where
+-- a call says "more from", the next one does.
+pub call-answered : (block : Run) (source : Source) → Valid block → ValidSource source → (start : RunCell) → start .0 < cellsOf block → (room : List ℕ) → 1 ≤ length room → (r : Listing) (after : List ℕ) → ListingPromise block source start room r after → Answered block r
+call-answered block source v w start inside room lent (Done n) after h = tt
+call-answered block source v w start inside room lent (More n next) after h = goes-inside h
+call-answered block source v w start inside room lent (Refused n) after h = not-refused v w start inside room lent (Refused n) after h n refl
+
+-- And so there are lists for every cut of a valid run, whatever rooms are lent.
+pub listings-exist : (run : Run) (source : Source) → Valid run → ValidSource source → (blocks : List Run) → Cut run blocks → (rooms : Run → ℕ → List ℕ) → ((block : Run) (k : ℕ) → 1 ≤ length (rooms block k)) → Listings source blocks
+listings-exist run source v w blocks cut rooms above = each blocks (λ block m. cut-valid run v blocks cut block m .valid)
+  where
+    each : (some : List Run) → ((block : Run) → List·Memᴰ block some → Valid block) → Listings source some
+    each [] f = tt
+    each (block ∷ rest) f = (listing-exists block source (f block (List·Memᴰ·head refl)) w (rooms block) (above block) .0, each rest (λ b m. f b (List·Memᴰ·tail m)))

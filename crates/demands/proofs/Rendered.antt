@@ -1,0 +1,160 @@
+-- A call's tests and the rows of 01's table: the complaint has the number n exactly if the table says n. Assumes nothing.
+use Prim.Native.Nat.{ℕ, _%_, _≤_, _<_}
+use mathlib.Core.Path.{_≡_, refl, sym, subst}
+use mathlib.Core.Logic.{_↔_, _⊎_, inl, inr, ⊎-elim}
+use mathlib.Core.Bool.{Bool, true, false}
+use mathlib.Core.List.{List, [], _∷_, _++_}
+use mathlib.Core.Option.{Option, some, none}
+use native.Mathlib.Omega.{arith}
+use lib.Dec.{ltb, leb, eqb}
+use borrow.Author.Tests.{ltb-true, lt-ltb, leb-true, le-leb, eqb-true, eq-eqb}
+use Rattle.scope.specs.Refusal.{Reason, Complaint, Tests, _when_, _andThen_, complaint, number, windowTests, lineTests, runTests, periodTests}
+use Rattle.scope.specs.declared.Run.{Run}
+use Rattle.scope.proofs.Judged.{Fails, Passes, broken, sound, first, then, both}
+use Rattle.scope.proofs.Limits.{passes-first, passes-then}
+use Rattle.scope.proofs.Hits.{hit-or-miss}
+use Rattle.demands.specs.Table.{Row, _given_, Says, Silent, BadWindow, BadLines, BadPeriod, runTable}
+
+-- the tests say what the table says
+pub record Renders (tests : Tests) (table : List Row) : Type 0 where
+  pub fails : (n : ℕ) → Fails tests n ↔ Says table n
+  pub passes : Passes tests ↔ Silent table
+
+-- tests pass or come to a complaint
+pub judged : (tests : Tests) → Passes tests ⊎ ((n : ℕ) × Fails tests n)
+judged tests = go (complaint tests) refl
+  where
+    go : (o : Option Complaint) → complaint tests ≡ o → Passes tests ⊎ ((n : ℕ) × Fails tests n)
+    go none e = inl (record { is = e })
+    go (some c) e = inr (number (c .reason), record { blames = c; is = e; numbered = refl })
+
+-- and not both
+not-both : {tests : Tests} {n : ℕ} → Passes tests → Fails tests n → ⊥
+not-both p f = let z : _≡_ {A = ℕ} 0 1 = cc in omega arith
+
+-- and to one number alone
+same-number : {tests : Tests} {n m : ℕ} → Fails tests n → Fails tests m → n ≡ m
+same-number f g = cc
+
+-- ---- one test
+
+one-broken : {reason : Reason} {wrong : Bool} {n : ℕ} → Fails (reason when wrong) n → (wrong ≡ true) × (number reason ≡ n)
+one-broken {reason} {wrong} {n} f = go (hit-or-miss wrong)
+  where
+    go : (wrong ≡ true) ⊎ (wrong ≡ false) → (wrong ≡ true) × (number reason ≡ n)
+    go (inl e) = (e, same-number (broken e) f)
+    go (inr e) = absurd (not-both (sound e) f)
+
+numbered : {tests : Tests} {n m : ℕ} → n ≡ m → Fails tests n → Fails tests m
+numbered {tests} e f = subst (Fails tests) e f
+
+pub one : {reason : Reason} {wrong : Bool} {P : Type 0} → (wrong ≡ true) ↔ P → Renders (reason when wrong) (number reason given P ∷ [])
+one {reason} {wrong} {P} e = record {
+  fails = λ n. (λ f. let b = one-broken f in inl (b .1, e .0 (b .0)), λ s. ⊎-elim (λ h. numbered (h .0) (broken (e .1 (h .1)))) (λ h. absurd (h .1)) s);
+  passes = (λ p. (λ h. not-both p (broken (e .1 h)), tt), λ s. sound (go (s .0) (hit-or-miss wrong)));
+}
+  where
+    go : (P → ⊥) → (wrong ≡ true) ⊎ (wrong ≡ false) → wrong ≡ false
+    go s (inl t) = absurd (s (e .0 t))
+    go s (inr f) = f
+
+-- ---- tests one after the other
+
+split-fails : {a b : Tests} {n : ℕ} → Fails (a andThen b) n → Fails a n ⊎ (Passes a × Fails b n)
+split-fails {a} {b} {n} f = ⊎-elim (λ p. inr (p, rest p (judged b))) (λ g. inl (numbered (same-number (first (g .1)) f) (g .1))) (judged a)
+  where
+    rest : Passes a → Passes b ⊎ ((m : ℕ) × Fails b m) → Fails b n
+    rest p (inl q) = absurd (not-both (both p q) f)
+    rest p (inr g) = numbered (same-number (then p (g .1)) f) (g .1)
+
+-- a row, and the rows after it up to t
+abbrev Parted : List Row → List Row → ℕ → Type 0
+Parted s t n = Says (s ++ t) n ↔ (Says s n ⊎ (Silent s × Says t n))
+
+says-cons : (row : Row) (s t : List Row) (n : ℕ) → Parted s t n → Parted (row ∷ s) t n
+says-cons row s t n rest = (to, from)
+  where
+    to : Says (row ∷ (s ++ t)) n → Says (row ∷ s) n ⊎ (Silent (row ∷ s) × Says t n)
+    to (inl h) = inl (inl h)
+    to (inr h) = ⊎-elim (λ k. inl (inr (h .0, k))) (λ k. inr ((h .0, k .0), k .1)) (rest .0 (h .1))
+
+    from : Says (row ∷ s) n ⊎ (Silent (row ∷ s) × Says t n) → Says (row ∷ (s ++ t)) n
+    from (inl (inl h)) = inl h
+    from (inl (inr h)) = inr (h .0, rest .1 (inl (h .1)))
+    from (inr h) = inr (h .0 .0, rest .1 (inr (h .0 .1, h .1)))
+
+says-split : (s t : List Row) (n : ℕ) → Parted s t n
+says-split [] t n = (λ h. inr (tt, h), λ h. ⊎-elim (λ k. absurd k) (λ k. k .1) h)
+says-split (row ∷ s) t n = says-cons row s t n (says-split s t n)
+
+silent-split : (s t : List Row) → Silent (s ++ t) ↔ (Silent s × Silent t)
+silent-split [] t = (λ h. (tt, h), λ h. h .1)
+silent-split (row ∷ s) t =
+    let rest = silent-split s t in
+    (λ h. ((h .0, rest .0 (h .1) .0), rest .0 (h .1) .1), λ h. (h .0 .0, rest .1 (h .0 .1, h .1)))
+
+infixl 40 _next_
+-- the tests of one table, then those of another
+pub _next_ : {a b : Tests} {s t : List Row} → Renders a s → Renders b t → Renders (a andThen b) (s ++ t)
+_next_ {a} {b} {s} {t} f g = record {
+  fails = λ n. (
+    λ h. says-split s t n .1 (⊎-elim (λ k. inl (f .fails n .0 k)) (λ k. inr (f .passes .0 (k .0), g .fails n .0 (k .1))) (split-fails h)),
+    λ h. ⊎-elim (λ k. first (f .fails n .1 k)) (λ k. then (f .passes .1 (k .0)) (g .fails n .1 (k .1))) (says-split s t n .0 h),
+  );
+  passes = (λ p. silent-split s t .1 (f .passes .0 (passes-first p), g .passes .0 (passes-then p)), λ h. let k = silent-split s t .0 h in both (f .passes .1 (k .0)) (g .passes .1 (k .1)));
+}
+
+-- two tests of one row: the row is so if one of them fails
+either : {a b : Tests} {m : ℕ} {P Q : Type 0} → Renders a (m given P ∷ []) → Renders b (m given Q ∷ []) → Renders (a andThen b) (m given (P ⊎ Q) ∷ [])
+either {a} {b} {m} {P} {Q} f g = record {
+  fails = λ n. (λ h. ⊎-elim (λ k. left n (f .fails n .0 k)) (λ k. right n (g .fails n .0 (k .1))) (split-fails h), λ h. ⊎-elim (λ k. numbered (k .0) (back (k .1))) (λ k. absurd (k .1)) h);
+  passes = (
+    λ p. (λ h. ⊎-elim (f .passes .0 (passes-first p) .0) (g .passes .0 (passes-then p) .0) h, tt),
+    λ h. both (f .passes .1 (λ k. h .0 (inl k), tt)) (g .passes .1 (λ k. h .0 (inr k), tt)),
+  );
+}
+  where
+    left : (n : ℕ) → Says (m given P ∷ []) n → Says (m given (P ⊎ Q) ∷ []) n
+    left n (inl h) = inl (h .0, inl (h .1))
+    left n (inr h) = absurd (h .1)
+
+    right : (n : ℕ) → Says (m given Q ∷ []) n → Says (m given (P ⊎ Q) ∷ []) n
+    right n (inl h) = inl (h .0, inr (h .1))
+    right n (inr h) = absurd (h .1)
+
+    second : Q → Passes a ⊎ ((n : ℕ) × Fails a n) → Fails (a andThen b) m
+    second q (inl p) = then p (g .fails m .1 (inl (refl, q)))
+    second q (inr h) = ⊎-elim (λ k. numbered (sym (k .0)) (first (h .1))) (λ k. absurd (k .1)) (f .fails (h .0) .0 (h .1))
+
+    back : P ⊎ Q → Fails (a andThen b) m
+    back (inl p) = first (f .fails m .1 (inl (refl, p)))
+    back (inr q) = second q (judged a)
+
+-- ---- the tests of numbers
+
+pub below : (a b : ℕ) → (ltb a b ≡ true) ↔ (a < b)
+below a b = (ltb-true a b, lt-ltb a b)
+
+pub at-most : (a b : ℕ) → (leb a b ≡ true) ↔ (a ≤ b)
+at-most a b = (leb-true a b, le-leb a b)
+
+pub equal : (a b : ℕ) → (eqb a b ≡ true) ↔ (a ≡ b)
+equal a b = (eqb-true a b, eq-eqb a b)
+
+-- ---- the rows of windows, lines, periods and runs
+
+pub window-row : (window : ℕ) → Renders (windowTests window) (1 given BadWindow window ∷ [])
+unfolding windowTests number
+window-row window = either (either (one (equal (window % 2) 1)) (one (below window 2))) (one (below 4096 window))
+
+lines-row : (first last : ℕ) → Renders (lineTests first last) (2 given BadLines first last ∷ [])
+unfolding lineTests number
+lines-row first last = either (either (one (below first 1)) (one (below last first))) (one (below 16777216 last))
+
+pub period-row : (period : ℕ) → Renders (periodTests period) (4 given BadPeriod period ∷ [])
+unfolding periodTests number
+period-row period = either (one (equal period 0)) (one (below 2147483647 period))
+
+pub run-rows : (run : Run) → Renders (runTests run) (runTable run)
+unfolding runTests number
+run-rows run = window-row (run .window) next lines-row (run .first) (run .last) next one (equal (run .interval) 0)

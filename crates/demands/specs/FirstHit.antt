@@ -1,0 +1,21 @@
+-- Demand 2 and document 01, "First hit from a cell on": which cell the first hit is, by the rule alone.
+use Prim.Native.Nat.{ℕ, _≤_, _<_}
+use Rattle.scope.specs.declared.Run.{Run}
+use Rattle.scope.specs.declared.Source.{Source}
+use Rattle.scope.specs.Run.{cellsOf, lineOf, offsetOf}
+use Rattle.scope.specs.Hit.{Hits}
+
+-- "source p hits cell (i, j) exactly when p divides T·j - i", of the cell with number x.
+abbrev pub HitsCell : Run → Source → ℕ → Type 0
+HitsCell run source x = Hits run source (offsetOf run x) (lineOf run x)
+
+-- "the smallest hit cell not below it": y is a hit cell of the run, not below x, and no cell in between is hit.
+pub record IsFirstHit (run : Run) (source : Source) (x y : ℕ) : Type 0 where
+  pub from : x ≤ y
+  pub inside : y < cellsOf run
+  pub hit : HitsCell run source y
+  pub least : (z : ℕ) → x ≤ z → z < y → HitsCell run source z → ⊥
+
+-- "none": no cell from x on is hit.
+abbrev pub NoHitFrom : Run → Source → ℕ → Type 0
+NoHitFrom run source x = (z : ℕ) → x ≤ z → z < cellsOf run → HitsCell run source z → ⊥

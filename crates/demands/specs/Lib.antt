@@ -1,0 +1,6 @@
+pub mod Table
+pub mod StepVectors
+pub mod FirstHit
+pub mod Cut
+pub mod Listing
+pub mod Adding

@@ -1,0 +1,100 @@
+-- Document 01, "Bench figures": the starred ones, as they stand there, and what it is for a figure to hold.
+use Prim.Native.Nat.{ℕ}
+use mathlib.Core.Path.{_≡_}
+use mathlib.Core.List.{List, [], _∷_, map}
+use mathlib.Core.Logic.{_↔_}
+use lib.IntN.{ℤ, pos, negsuc}
+use lib.ListN.{length, replicate}
+use Rattle.scope.specs.declared.Run.{Run}
+use Rattle.scope.specs.Run.{cellOf}
+use Rattle.vectors.specs.declared.Vector.{Vector}
+use Rattle.vectors.specs.declared.Steps.{Steps}
+use Rattle.vectors.specs.declared.Steps.the-variants.{Pair, Single, Refused}
+use Rattle.vectors.specs.Promise.{VectorsPromise}
+use Rattle.map.specs.declared.Added.{Added}
+use Rattle.map.specs.declared.Added.the-variants.{Done as Done·map}
+use Rattle.map.specs.Map.{MapPromise}
+use Rattle.saved.specs.declared.Saved.{Saved}
+use Rattle.saved.specs.declared.Saved.the-variants.{Done as Done·saved}
+use Rattle.saved.specs.Block.{fourAt}
+use Rattle.saved.specs.Promise.{SavePromise}
+use Rattle.hits.specs.declared.Listing.{Listing}
+use Rattle.hits.specs.declared.Listing.the-variants.{Done}
+use Rattle.hits.specs.Promise.{ListingPromise}
+
+-- A place of a hit, "as offset, line".
+pub record Place : Type 0 where
+  pub offset : ℤ
+  pub line : ℕ
+
+-- A row of the table.
+pub data Figure : Type 0 where
+  -- "p, r, I: reply"
+  vectors : (p r I : ℕ) → Steps → Figure
+  -- "Hits on lines 1-11 as offset, line": of a run and a period
+  hits : Run → ℕ → List Place → Figure
+  -- "The map above": of a run, the periods and weights listed, and the cells of the map, which was clear before
+  mapped : Run → (periods weights cells : List ℕ) → Figure
+  -- "saved, it is 1,024 bytes with checks 294 and 22,327": of a run and its map, the length and the checks of the two blocks
+  saved : Run → (cells : List ℕ) → (size first second : ℕ) → Figure
+
+-- A figure holds if the promise at the row's inputs admits an outcome exactly if it is the row's figure.
+abbrev pub Holds : Figure → Type 0
+Holds (vectors p r I figure) = (steps : Steps) → VectorsPromise p r I steps ↔ (steps ≡ figure)
+Holds (hits run period figure) =
+    (room : List ℕ) → length room ≡ length figure → (reply : Listing) (after : List ℕ) →
+    ListingPromise run (record { period = period }) (record { 0 = 0 }) room reply after ↔
+    ((reply ≡ Done (length figure)) × (map pos after ≡ map (λ place. cellOf run (place .offset) (place .line)) figure))
+Holds (mapped run periods weights figure) =
+    (answer : Added) (after : List ℕ) →
+    MapPromise run periods weights (replicate (length figure) 0) answer after ↔ ((answer ≡ Done·map) × (after ≡ figure))
+Holds (saved run cells size first second) =
+    (file : List ℕ) → length file ≡ size →
+    ((answer : Saved) (after : List ℕ) → SavePromise run cells file answer after →
+    (answer ≡ Done·saved) × (length after ≡ size) × (fourAt after 508 ≡ first) × (fourAt after 1020 ≡ second)) ×
+    ((after : List ℕ) × SavePromise run cells file Done·saved after)
+
+-- An offset below 0, as in -3.
+abbrev pub minus : ℕ → ℤ
+minus n = lib.IntN.negℤ (pos n)
+
+-- A vector, as in (-1, 2).
+abbrev pub vector : ℤ → ℕ → Vector
+vector offset line = record { offset = offset; line = line }
+
+-- A place, as in (-3,2).
+abbrev pub place : ℤ → ℕ → Place
+place offset line = record { offset = offset; line = line }
+
+-- "p 11, r 4, I 6 .. lines 1-11", with an interval whose remainder is 4.
+abbrev pub lines-1-11 : Run
+lines-1-11 = record { window = 6; interval = 4; first = 1; last = 11 }
+
+-- "(-3,2) (1,3) (-2,5) (2,6) (-1,8) (0,11)".
+abbrev pub hits-1-11 : List Place
+hits-1-11 = place (minus 3) 2 ∷ place (pos 1) 3 ∷ place (minus 2) 5 ∷ place (pos 2) 6 ∷ place (minus 1) 8 ∷ place (pos 0) 11 ∷ []
+
+-- "run 4 10 1 5".
+abbrev pub example : Run
+example = record { window = 4; interval = 10; first = 1; last = 5 }
+
+-- "map 0 200, map 3 200, map 5 255, map 10 200, map 12 255, map 15 200, map 17 200, map 19 60", the other cells being 0.
+abbrev pub exampleMap : List ℕ
+exampleMap = 200 ∷ 0 ∷ 0 ∷ 200 ∷ 0 ∷ 255 ∷ 0 ∷ 0 ∷ 0 ∷ 0 ∷ 200 ∷ 0 ∷ 255 ∷ 0 ∷ 0 ∷ 200 ∷ 0 ∷ 200 ∷ 0 ∷ 60 ∷ []
+
+-- "Marked * are proved."
+abbrev pub table : List Figure
+table =
+    vectors 7 3 4 (Pair (vector (minus 1) 2) (vector (pos 3) 1)) ∷
+    vectors 7 5 4 (Pair (vector (minus 2) 1) (vector (pos 3) 2)) ∷
+    vectors 11 4 6 (Pair (vector (minus 3) 2) (vector (pos 4) 1)) ∷
+    hits lines-1-11 11 hits-1-11 ∷
+    vectors 4 1 4 (Pair (vector (minus 3) 1) (vector (pos 1) 1)) ∷
+    vectors 4 1 6 (Refused 6) ∷
+    vectors 12 6 6 (Single (vector (pos 0) 2)) ∷
+    vectors 12 6 8 (Pair (vector (minus 6) 1) (vector (pos 6) 1)) ∷
+    vectors 9 0 4 (Single (vector (pos 0) 1)) ∷
+    vectors 2 1 2 (Pair (vector (minus 1) 1) (vector (pos 1) 1)) ∷
+    mapped example (7 ∷ 3 ∷ []) (60 ∷ 200 ∷ []) exampleMap ∷
+    saved example exampleMap 1024 294 22327 ∷
+    []

@@ -1,0 +1,228 @@
+-- The two loops of the listing. At the head of a line the next hit is known with its offset, and the line's first hit with
+-- it; within the line the hits are a period apart, up to the line's end; from there the walk leads to the next line.
+-- A signed number in a loop stands as its bits, z, and is `toZ w64 z`. Assumes nothing.
+use Prim.Native.Nat.{ℕ, suc, _+_, _-_, _*_, _/_, _%_, _^_, _≤_, _<_, min}
+use native.Mathlib.Nat.{mod-lt, div-add-mod', mul-le-mul-right}
+use native.Mathlib.Omega.{arith}
+use mathlib.Core.Path.{_≡_, refl, sym, ap, _∙_, subst}
+use mathlib.Core.Logic.{⊎-elim}
+use mathlib.Core.Bool.{true, false}
+use mathlib.Core.List.{List}
+use lib.ListN.{length, set}
+use lib.IntN.{ℤ, pos, negℤ, _+ℤ_, _-ℤ_}
+use lib.Signed.{_≤ℤ_, _<ℤ_, ltZ}
+use mir.Syntax.{w64}
+use mir.Val.{SFits, toZ, ofZ}
+use mir.Facts.{toZ-ofZ, toZ-pos}
+use Rattle.signed.proofs.Parts.{parts, sum, apart, neg-up, neg-dn, ltZ-true, ltZ-false}
+use Rattle.lattice.proofs.Congruence.{split}
+use Rattle.lattice.proofs.Row.{leftmost-next}
+use Rattle.scope.specs.declared.Run.{Run}
+use Rattle.scope.specs.declared.Source.{Source}
+use Rattle.scope.specs.Run.{Valid, ValidSource, cellsOf, lineOf, offsetOf}
+use Rattle.scope.specs.Hit.{isHit}
+use Rattle.scope.proofs.Limits.{cells-few}
+use Rattle.scope.proofs.Hits.{origin}
+use Rattle.hits.specs.declared.walk.Place.{Place}
+use Rattle.hits.specs.declared.walk.Walk.{Walk}
+use Rattle.hits.specs.declared.Listing.the-variants.{Done, More}
+use Rattle.hits.specs.List.{Lists}
+use Rattle.hits.specs.Walk.{Leads, Stands, Walking, NextLine}
+use Rattle.hits.proofs.Cells.{Points, rows-le, point-hit, hit-point, missed, own-line, inside-cells}
+use Rattle.hits.proofs.Walks.{shifted-le, shifted-lt, apart-by, fits-at}
+use Rattle.hits.proofs.Kept.{Kept, kept-over, kept-end, kept-write, kept-more, kept-done}
+
+-- what stays
+pub record Fixed (run : Run) (source : Source) (all period end : ℕ) (walk : Walk) : Type 0 where
+  pub valid : Valid run
+  pub source-valid : ValidSource source
+  pub all-is : all ≡ cellsOf run
+  pub period-is : period ≡ source .period
+  pub end-is : toZ w64 end ≡ pos (run .window) -ℤ pos (run .window / 2)
+  pub leads : Leads run source walk
+
+-- a hit cell, its offset, and the first hit of its line
+pub record Running (run : Run) (source : Source) (at : Place) (cell offset : ℕ) : Type 0 where
+  pub stands : Stands run source at
+  pub line : at .cell / run .window ≡ cell / run .window
+  pub hit : isHit run source cell ≡ true
+  pub offset-is : toZ w64 offset ≡ offsetOf run cell
+
+-- at the head of a line: the next hit, or none
+pub record Head (run : Run) (source : Source) (start : ℕ) (before room : List ℕ) (n cell offset : ℕ) (at : Place) : Type 0 where
+  pub kept : Kept run source start before room n cell
+  pub running : cell < cellsOf run → Running run source at cell offset
+
+-- within the line of `at`, at distance e from the left edge, which may be past the line's end
+pub record Inside (run : Run) (source : Source) (start : ℕ) (before room : List ℕ) (n cell offset : ℕ) (at : Place) : Type 0 where
+  pub stands : Stands run source at
+  pub below : at .cell < cellsOf run
+  pub e : ℕ
+  pub cell-is : cell ≡ at .cell / run .window * run .window + e
+  pub offset-is : toZ w64 offset ≡ pos e -ℤ pos (run .window / 2)
+  pub on : Points run source e (run .first + at .cell / run .window)
+  pub near : e < run .window + source .period
+  pub kept : Kept run source start before room n (at .cell / run .window * run .window + min e (run .window))
+
+module _ {run : Run} {source : Source} {start all period end : ℕ} {walk : Walk} (fixed : Fixed run source all period end walk) {before : List ℕ} where
+  -- into a line
+  pub enter : {room : List ℕ} {n cell offset : ℕ} {at : Place} → cell < all → Head run source start before room n cell offset at → Inside run source start before room n cell offset at
+  unfolding offsetOf
+  enter {room} {n} {cell} {offset} {at} in′ h =
+      let v = fixed .valid in
+      let r = h .running (omega (arith, fixed .all-is)) in
+      let line = r .line in
+      let some = v .narrow in
+      let m = mod-lt cell {m = run .window} (omega arith) in
+      let parts′ = div-add-mod' cell (run .window) in
+      let am = mod-lt (at .cell) {m = run .window} (omega arith) in
+      let aparts = div-add-mod' (at .cell) (run .window) in
+      let there : cell ≡ at .cell / run .window * run .window + cell % run .window = omega (arith, ap (λ k. k * run .window) line) in
+      let same : at .cell / run .window * run .window + min (cell % run .window) (run .window) ≡ cell = omega (arith, there) in
+      record {
+        stands = r .stands;
+        below = omega (arith, inside-cells (at .cell / run .window) {e = at .cell % run .window} v am (rw line (own-line v (omega (arith, fixed .all-is)))));
+        e = cell % run .window;
+        cell-is = there;
+        offset-is = r .offset-is;
+        on = rw line (point-hit run source cell (r .hit));
+        near = omega arith;
+        kept = rw same (h .kept);
+      }
+
+  -- ---- within the line
+
+  module _ {room : List ℕ} {n cell offset : ℕ} {at : Place} (i : Inside run source start before room n cell offset at) where
+    by-distance : toZ w64 offset +ℤ pos (run .window / 2) ≡ pos (i .e)
+    by-distance = rw (i .offset-is) (apart-by (i .e) (run .window / 2))
+
+    by-end : toZ w64 end +ℤ pos (run .window / 2) ≡ pos (run .window)
+    by-end = rw (fixed .end-is) (apart-by (run .window) (run .window / 2))
+
+    -- the test of the inner loop
+    pub within : ltZ (toZ w64 offset) (toZ w64 end) ≡ true → i .e < run .window
+    within t = shifted-lt (toZ w64 offset) (toZ w64 end) (run .window / 2) by-distance by-end (ltZ-true (toZ w64 offset) (toZ w64 end) t)
+
+    pub beyond : ltZ (toZ w64 offset) (toZ w64 end) ≡ false → run .window ≤ i .e
+    beyond t = shifted-le (toZ w64 end) (toZ w64 offset) (run .window / 2) by-end by-distance (ltZ-false (toZ w64 offset) (toZ w64 end) t)
+
+    pub walking : Walking walk at
+    walking = record {
+      run = run;
+      source = source;
+      valid = fixed .valid;
+      source-valid = fixed .source-valid;
+      leads = fixed .leads;
+      stands = i .stands;
+      inside = i .below;
+    }
+
+    module _ (in′ : i .e < run .window) where
+      pub cell-in : cell < cellsOf run
+      cell-in = rw (i .cell-is) (inside-cells (at .cell / run .window) (fixed .valid) in′ (own-line (fixed .valid) (i .below)))
+
+      pub cell-hit : isHit run source cell ≡ true
+      cell-hit = rw (i .cell-is) (hit-point run source (at .cell / run .window) in′ (i .on))
+
+      pub kept-here : Kept run source start before room n cell
+      kept-here = let same : at .cell / run .window * run .window + min (i .e) (run .window) ≡ cell = omega (arith, i .cell-is) in rw same at (i .kept)
+
+      -- the next offset
+      period-held : toZ w64 period ≡ pos (source .period)
+      period-held = rw (fixed .period-is) (toZ-pos w64 (omega (arith, fixed .source-valid .fits)))
+
+      pub offset-fits : SFits w64 (toZ w64 offset +ℤ toZ w64 period)
+      offset-fits =
+          let b = by-distance in
+          let w = fixed .valid .wide in
+          let f = fixed .source-valid .fits in
+          rw period-held (omega (arith, parts, sum (toZ w64 offset) (pos (run .window / 2)), sum (toZ w64 offset) (pos (source .period)), apart (toZ w64 offset), apart (toZ w64 offset +ℤ pos (source .period))))
+
+      offset-next : toZ w64 (ofZ w64 (toZ w64 offset +ℤ toZ w64 period)) ≡ pos (i .e + source .period) -ℤ pos (run .window / 2)
+      offset-next =
+          let b = by-distance in
+          let h = pos (run .window / 2) in
+          let e : toZ w64 offset +ℤ pos (source .period) ≡ pos (i .e + source .period) -ℤ pos (run .window / 2) = omega (arith, parts, sum (toZ w64 offset) h, sum (toZ w64 offset) (pos (source .period)), sum (pos (i .e + source .period)) (negℤ h), neg-up h, neg-dn h) in
+          toZ-ofZ offset-fits ∙ rw period-held e
+
+      -- no hit between this one and the next, or the line's end
+      gap : (z : ℕ) → cell + 1 ≤ z → z < at .cell / run .window * run .window + min (i .e + source .period) (run .window) → isHit run source z ≡ false
+      gap z a b = missed (fixed .valid) source z (λ k d h is o.
+          let some = fixed .valid .narrow in
+          let up = rows-le {k = k} {l = at .cell / run .window} {I = run .window} {e = run .window - 1} (omega arith) (omega arith) in
+          let down = rows-le {k = at .cell / run .window} {l = k} h (omega (arith, i .cell-is)) in
+          let same : k ≡ at .cell / run .window = omega arith in
+          let far = leftmost-next (fixed .source-valid .ticks) (i .on) .least d (omega (arith, i .cell-is, ap (λ x. x * run .window) same)) (subst (λ x. Points run source d (run .first + x)) same o) in
+          omega (arith, ap (λ x. x * run .window) same))
+
+      pub write : n < length room → Inside run source start before (set room n cell) (n + 1) (cell + period) (ofZ w64 (toZ w64 offset +ℤ toZ w64 period)) at
+      write l =
+          let k = kept-write l cell-in cell-hit kept-here in
+          record {
+            stands = i .stands;
+            below = i .below;
+            e = i .e + source .period;
+            cell-is = omega (arith, i .cell-is, fixed .period-is);
+            offset-is = offset-next;
+            on = leftmost-next (fixed .source-valid .ticks) (i .on) .on;
+            near = omega arith;
+            kept = kept-over (omega (arith, i .cell-is, fixed .source-valid .ticks)) gap k;
+          }
+
+    -- from the line's end to the next line
+    pub leave : {to : Place} → run .window ≤ i .e → NextLine run source at to → Head run source start before room n (to .cell) (ofZ w64 (to .offset)) to
+    unfolding offsetOf lineOf
+    leave {to} out nl =
+        let v = fixed .valid in
+        let w = v .wide in
+        let some = v .narrow in
+        let m = mod-lt (to .cell) {m = run .window} (omega arith) in
+        let s = nl .stands in
+        let end′ : at .cell / run .window * run .window + min (i .e) (run .window) ≡ (at .cell / run .window + 1) * run .window = omega arith in
+        let lines : at .cell / run .window + 1 ≤ to .cell / run .window = omega (arith, nl .later) in
+        record {
+          kept = kept-over (omega (arith, mul-le-mul-right (run .window) lines, div-add-mod' (to .cell) (run .window))) (λ z a b.
+              let zm = mod-lt z {m = run .window} (omega arith) in
+              nl .none z (omega (arith, rows-le {k = at .cell / run .window + 1} {l = z / run .window} zm (omega (arith, div-add-mod' z (run .window))))) b) (rw end′ at (i .kept));
+          running = λ h. record {
+            stands = s;
+            line = refl;
+            hit = s .hit;
+            offset-is = toZ-ofZ (fits-at (to .cell % run .window) (run .window / 2) (s .offset) (omega arith) (omega arith)) ∙ s .offset;
+          };
+        }
+
+-- ---- the ends
+
+-- the hits written and those from `next` on are all; and if `next` is a cell of the run, it is hit and the room is full
+pub record Ended (run : Run) (source : Source) (start : ℕ) (before room : List ℕ) (n next : ℕ) : Type 0 where
+  pub kept : Kept run source start before room n next
+  pub full : next < cellsOf run → n ≡ length room
+  pub hit : next < cellsOf run → isHit run source next ≡ true
+
+module _ {run : Run} {source : Source} {start all period end : ℕ} {walk : Walk} (fixed : Fixed run source all period end walk) {before room : List ℕ} {n cell offset : ℕ} {at : Place} where
+  -- the walk went past the last cell
+  pub ran-out : Head run source start before room n cell offset at → all ≤ cell → Ended run source start before room n all
+  ran-out h out =
+      let is = fixed .all-is in
+      record { kept = kept-end all (omega arith) (omega arith) (h .kept); full = λ l. absurd (omega arith); hit = λ l. absurd (omega arith) }
+
+  -- the room was full within a line
+  pub filled : (i : Inside run source start before room n cell offset at) → i .e < run .window → n ≡ length room → Ended run source start before room n cell
+  filled i in′ e = record { kept = kept-here fixed i in′; full = λ l. e; hit = λ l. cell-hit fixed i in′ }
+
+module _ {run : Run} {source : Source} {start : ℕ} {before room : List ℕ} {n next : ℕ} (ended : Ended run source start before room n next) where
+  pub says-more : next < cellsOf run → Lists run source start before (More n (record { 0 = next })) room
+  says-more h = kept-more (ended .full h) h (ended .hit h) (ended .kept)
+
+  pub says-done : cellsOf run ≤ next → Lists run source start before (Done n) room
+  says-done h = kept-done h (ended .kept)
+
+-- the walk gets on: from a hit of a line to one of a later line
+pub gets-on : {run : Run} {source : Source} {at to : Place} {cell offset : ℕ} → Valid run → Running run source at cell offset → NextLine run source at to → cell < to .cell
+unfolding lineOf
+gets-on {run} {source} {at} {to} {cell} v r nl =
+    let some = v .narrow in
+    let m = mod-lt cell {m = run .window} (omega arith) in
+    let lines : cell / run .window + 1 ≤ to .cell / run .window = omega (arith, nl .later, r .line) in
+    omega (arith, mul-le-mul-right (run .window) lines, div-add-mod' cell (run .window), div-add-mod' (to .cell) (run .window))

@@ -1,0 +1,278 @@
+-- The walk from the first hit of a line to the first hit of the next line that has one, told of the code's steps and places.
+-- The hits are at distances below the window's width or the period, whichever is less: there a line has at most one.
+-- Assumes nothing.
+use Prim.Native.Nat.{ℕ, _+_, _-_, _*_, _/_, _%_, _^_, _≤_, _<_, min}
+use native.Mathlib.Nat.{mod-lt, mod-le, div-add-mod', mul-le-mul, mul-le-mul-right}
+use native.Mathlib.Omega.{arith}
+use mathlib.Core.Path.{_≡_, refl, sym, subst, ap, _∙_}
+use mathlib.Core.Logic.{_↔_, ⊎-elim}
+use mathlib.Core.Bool.{true, false, true≢false}
+use lib.Dec.{T}
+use lib.IntN.{ℤ, pos, negsuc, negℤ, _+ℤ_, _-ℤ_}
+use lib.Signed.{_≤ℤ_, _<ℤ_, leZ, ltZ, leZ-yes}
+use borrow.Author.Tests.{leb-false}
+use mir.Syntax.{w64}
+use mir.Val.{SFits, toZ, ofZ}
+use mir.Facts.{toZ-ofZ}
+use Rattle.signed.proofs.Parts.{parts, sum, apart, neg-up, neg-dn, ltZ-true, ltZ-false}
+use Rattle.lattice.proofs.Congruence.{split, cong-mod, cong-sym, cong-trans, cong-below}
+use Rattle.lattice.proofs.First.{Next}
+use Rattle.scope.specs.declared.Run.{Run}
+use Rattle.scope.specs.declared.Source.{Source}
+use Rattle.scope.specs.Run.{Valid, ValidSource, cellsOf, lineOf, offsetOf}
+use Rattle.scope.specs.Hit.{isHit}
+use Rattle.scope.proofs.Limits.{cells-few}
+use Rattle.scope.proofs.Numbering.{line-at, distance-at}
+use Rattle.hits.specs.declared.walk.Step.{Step}
+use Rattle.hits.specs.declared.walk.Place.{Place}
+use Rattle.hits.specs.declared.walk.Walk.{Walk}
+use Rattle.hits.specs.Walk.{Movable, Moved, Leads, Stands, Walking, NextLine, width}
+use Rattle.hits.proofs.Cells.{Points, rows-le, hit-point, miss-point, point-hit, way, arrive}
+
+-- the first point of a line, from any of its points
+pub first-point : (run : Run) (source : Source) {d j : ℕ} → Points run source d j → Points run source (d % source .period) j
+first-point run source {d} o = record { cong = cong-trans (cong-mod (source .period) d) (o .cong) }
+
+-- ---- where a step leads
+
+module _ {run : Run} (v : Valid run) {source : Source} (s : ValidSource source) {at : Place} (to : Place) (here : Stands run source at) {Y e : ℕ} (next : Next (source .period) (run .interval % source .period) (width run source) (at .cell % run .window) Y e) (is : to .cell ≡ (at .cell / run .window + Y) * run .window + e) where
+  inside : e < run .window
+  inside = omega (arith, next .inside)
+
+  there : Points run source e (run .first + (at .cell / run .window + Y))
+  there = subst (λ x. Points run source e x) (omega arith) (arrive run source (point-hit run source (at .cell) (here .hit)) (next .way))
+
+  stands : to .offset ≡ pos e -ℤ pos (run .window / 2) → Stands run source to
+  unfolding offsetOf
+  stands o =
+      let place : to .cell % run .window ≡ e = rw is (distance-at run (at .cell / run .window + Y) inside) in
+      record {
+        hit = rw is (hit-point run source (at .cell / run .window + Y) inside there);
+        leftmost = omega (arith, next .inside);
+        offset = rw place o;
+      }
+
+  rises : at .cell < to .cell
+  rises =
+      let some = v .narrow in
+      let d = mod-lt (at .cell) {m = run .window} (omega arith) in
+      let more = mul-le-mul-right (run .window) (next .later) in
+      omega (arith, is, div-add-mod' (at .cell) (run .window))
+
+  later : lineOf run (at .cell) < lineOf run (to .cell)
+  unfolding lineOf
+  later =
+      let l : lineOf run (to .cell) ≡ run .first + (at .cell / run .window + Y) = rw is (line-at run (at .cell / run .window + Y) inside) in
+      omega (arith, next .later)
+
+  none : (z : ℕ) → lineOf run (at .cell) < lineOf run z → z < to .cell → isHit run source z ≡ false
+  unfolding lineOf
+  none z later before = miss-point run source z (λ o.
+      let some = v .narrow in
+      let zd = mod-lt z {m = run .window} (omega arith) in
+      let zp = mod-lt (z % run .window) (s .ticks) in
+      let zl = mod-le (z % run .window) (source .period) in
+      let l : run .first + at .cell / run .window ≤ run .first + z / run .window = omega arith in
+      let w = way run source l (point-hit run source (at .cell) (here .hit)) (first-point run source o) in
+      let past = next .least (run .first + z / run .window - (run .first + at .cell / run .window)) (z % run .window % source .period) (omega arith) (omega arith) w in
+      let low = rows-le {k = z / run .window} {l = at .cell / run .window + Y} inside (omega (arith, is, div-add-mod' z (run .window))) in
+      let same : z / run .window ≡ at .cell / run .window + Y = omega arith in
+      let alike = cong-below (cong-trans (first-point run source o .cong) (cong-sym (subst (λ x. Points run source e (run .first + x)) (sym same) there .cong))) zp (omega (arith, next .inside)) in
+      omega (arith, is, div-add-mod' z (run .window), ap (λ x. x * run .window) same))
+
+  pub landed : to .offset ≡ pos e -ℤ pos (run .window / 2) → NextLine run source at to
+  landed o = record { stands = stands o; later = later; rises = rises; none = none }
+
+-- ---- the steps are small, and so is every sum of the walk
+
+leZ-true : (x y : ℤ) → leZ x y ≡ true → x ≤ℤ y
+leZ-true x y e = leZ-yes (subst T (sym e) tt)
+
+leZ-false : (x y : ℤ) → leZ x y ≡ false → y <ℤ x
+leZ-false (pos a) (pos b) e = let h = leb-false a b e in omega (arith, parts)
+leZ-false (pos a) (negsuc b) e = record { lt = tt }
+leZ-false (negsuc a) (pos b) e = absurd (true≢false e)
+leZ-false (negsuc a) (negsuc b) e = let h = leb-false b a e in omega (arith, parts)
+
+-- d - h, for a distance d
+pub apart-by : (d h : ℕ) → (pos d -ℤ pos h) +ℤ pos h ≡ pos d
+apart-by d h = omega (arith, parts, sum (pos d) (negℤ (pos h)), neg-up (pos h), neg-dn (pos h), sum (pos d -ℤ pos h) (pos h))
+
+-- two offsets and their distances are in one order
+pub shifted-le : (x y : ℤ) (h : ℕ) {a b : ℕ} → x +ℤ pos h ≡ pos a → y +ℤ pos h ≡ pos b → x ≤ℤ y → a ≤ b
+shifted-le x y h {a} {b} e f l = omega (arith, parts, sum x (pos h), sum y (pos h))
+
+pub shifted-lt : (x y : ℤ) (h : ℕ) {a b : ℕ} → x +ℤ pos h ≡ pos a → y +ℤ pos h ≡ pos b → x <ℤ y → a < b
+shifted-lt x y h {a} {b} e f l = omega (arith, parts, sum x (pos h), sum y (pos h))
+
+-- an offset at distance d, a step to the left, a step to the right, and both
+left-of : (x z : ℤ) (h A : ℕ) {d : ℕ} → x +ℤ pos h ≡ pos d → z ≡ x +ℤ negℤ (pos A) → A ≤ d → z ≡ pos (d - A) -ℤ pos h
+left-of x z h A {d} e f l =
+    omega (arith, parts, sum x (pos h), sum x (negℤ (pos A)), neg-up (pos A), neg-dn (pos A), sum (pos (d - A)) (negℤ (pos h)), neg-up (pos h), neg-dn (pos h))
+
+right-of : (x z : ℤ) (h C : ℕ) {d : ℕ} → x +ℤ pos h ≡ pos d → z ≡ x +ℤ pos C → z ≡ pos (d + C) -ℤ pos h
+right-of x z h C {d} e f = omega (arith, parts, sum x (pos h), sum x (pos C), sum (pos (d + C)) (negℤ (pos h)), neg-up (pos h), neg-dn (pos h))
+
+across : (x y z : ℤ) (h A C : ℕ) {d : ℕ} → x +ℤ pos h ≡ pos d → y ≡ x +ℤ negℤ (pos A) → z ≡ y +ℤ pos C → A ≤ d + C → z ≡ pos (d + C - A) -ℤ pos h
+across x y z h A C {d} e f g l =
+    omega (arith, parts, sum x (pos h), sum x (negℤ (pos A)), neg-up (pos A), neg-dn (pos A), sum y (pos C), sum (pos (d + C - A)) (negℤ (pos h)), neg-up (pos h), neg-dn (pos h))
+
+pub near : (d h : ℕ) → d ≤ 4096 → h ≤ 4096 → (negℤ (pos 4096) ≤ℤ (pos d -ℤ pos h)) × ((pos d -ℤ pos h) ≤ℤ pos 4096)
+near d h a b =
+    let s = sum (pos d) (negℤ (pos h)) in
+    let u = neg-up (pos h) in
+    let n = neg-dn (pos h) in
+    let m = neg-dn (pos 4096) in
+    let k = neg-up (pos 4096) in
+    (omega (arith, parts), omega (arith, parts))
+
+pub near-fits : (z : ℤ) → negℤ (pos 4096) ≤ℤ z → z ≤ℤ pos 4096 → SFits w64 z
+near-fits z l h = omega (arith, parts, apart z, neg-dn (pos 4096), neg-up (pos 4096))
+
+pub fits-at : {z : ℤ} (d h : ℕ) → z ≡ pos d -ℤ pos h → d ≤ 4096 → h ≤ 4096 → SFits w64 z
+fits-at {z} d h e a b = let n = near d h a b in rw e (near-fits (pos d -ℤ pos h) (n .0) (n .1))
+
+-- the numbers of a walk and of the place where it stands
+pub record Near (walk : Walk) (at : Place) : Type 0 where
+  pub offset : (negℤ (pos 4096) ≤ℤ at .offset) × (at .offset ≤ℤ pos 4096)
+  pub low : (negℤ (pos 4096) ≤ℤ walk .low) × (walk .low ≤ℤ pos 4096)
+  pub high : (negℤ (pos 4096) ≤ℤ walk .high) × (walk .high ≤ℤ pos 4096)
+  pub left : (negℤ (pos 4096) ≤ℤ walk .left .offset) × (walk .left .offset ≤ℤ pos 4096)
+  pub right : (negℤ (pos 4096) ≤ℤ walk .right .offset) × (walk .right .offset ≤ℤ pos 4096)
+  pub left-cells : walk .left .cells ≤ 8796093018112
+  pub right-cells : walk .right .cells ≤ 8796093022208
+
+pub small : {run : Run} {source : Source} {walk : Walk} {at : Place} → Valid run → ValidSource source → Leads run source walk → Stands run source at → Near walk at
+unfolding offsetOf
+small {run} {source} {walk} {at} v s l here =
+    let w = v .wide in
+    let some = v .narrow in
+    let half : run .window / 2 ≤ 4096 = omega arith in
+    let d = mod-lt (at .cell) {m = run .window} (omega arith) in
+    let a = l .left-short in
+    let c = l .right-short in
+    let β = mul-le-mul (l .left-few) w in
+    let δ = mul-le-mul (l .right-few) w in
+    let p = s .fits in
+    record {
+      offset = rw (here .offset) (near (at .cell % run .window) (run .window / 2) (omega arith) half);
+      low = rw (l .low) (near (l .from) (run .window / 2) (omega (arith, l .from-short)) half);
+      high = rw (l .high) (near (l .below) (run .window / 2) (omega (arith, l .below-short)) half);
+      left = rw (l .left-offset) (omega (arith, parts, neg-dn (pos 4096), neg-up (pos 4096), neg-dn (pos (l .A)), neg-up (pos (l .A))), omega (arith, parts, neg-dn (pos (l .A)), neg-up (pos (l .A))));
+      right = rw (l .right-offset) (omega (arith, parts, neg-dn (pos 4096), neg-up (pos 4096)), omega (arith, parts));
+      left-cells = omega (arith, l .left-cells);
+      right-cells = omega (arith, l .right-cells);
+    }
+
+-- ---- the three cases
+
+module _ {walk : Walk} {at : Place} (w : Walking walk at) where
+  sizes : Near walk at
+  sizes = small (w .valid) (w .source-valid) (w .leads) (w .stands)
+
+  pub movable-left : Movable at (walk .left)
+  movable-left =
+      let n = sizes in
+      let few = cells-few (w .valid) in
+      let i = w .inside in
+      record {
+        offset-low = omega (arith, parts, n .offset .0, neg-dn (pos 4096), neg-up (pos 4096), neg-dn (pos 16384), neg-up (pos 16384));
+        offset-high = omega (arith, parts, n .offset .1);
+        step-low = n .left .0;
+        step-high = n .left .1;
+        cell = omega arith;
+        cells = omega (arith, n .left-cells);
+      }
+
+  pub movable-right : Movable at (walk .right)
+  movable-right =
+      let n = sizes in
+      let few = cells-few (w .valid) in
+      let i = w .inside in
+      record {
+        offset-low = omega (arith, parts, n .offset .0, neg-dn (pos 4096), neg-up (pos 4096), neg-dn (pos 16384), neg-up (pos 16384));
+        offset-high = omega (arith, parts, n .offset .1);
+        step-low = n .right .0;
+        step-high = n .right .1;
+        cell = omega arith;
+        cells = omega (arith, n .right-cells);
+      }
+
+  pub movable-both : {mid : Place} → Moved at (walk .left) mid → Movable mid (walk .right)
+  movable-both {mid} m =
+      let n = sizes in
+      let few = cells-few (w .valid) in
+      let i = w .inside in
+      let o = m .offset in
+      let s = sum (at .offset) (walk .left .offset) in
+      let l = n .left-cells in
+      let c = m .cell in
+      record {
+        offset-low = omega (arith, parts, n .offset .0, n .left .0, neg-dn (pos 4096), neg-up (pos 4096), neg-dn (pos 16384), neg-up (pos 16384));
+        offset-high = omega (arith, parts, n .offset .1, n .left .1);
+        step-low = n .right .0;
+        step-high = n .right .1;
+        cell = omega arith;
+        cells = omega (arith, n .right-cells);
+      }
+
+  -- no step leads far
+  pub one-small : {step : Step} {to : Place} → step .cells ≤ 2 ^ 44 → Moved at step to → to .cell < 2 ^ 46
+  one-small h m = omega (arith, m .cell, cells-few (w .valid), w .inside)
+
+  pub two-small : {mid to : Place} → Moved at (walk .left) mid → Moved mid (walk .right) to → to .cell < 2 ^ 46
+  two-small m m′ = omega (arith, m .cell, m′ .cell, cells-few (w .valid), w .inside, sizes .left-cells, sizes .right-cells)
+
+module _ {run : Run} (v : Valid run) {source : Source} (s : ValidSource source) {walk : Walk} (l : Leads run source walk) {at : Place} (here : Stands run source at) where
+  -- the distance at which the walk stands, by its offset
+  distance-in : at .cell % run .window < width run source
+  distance-in = let some = v .narrow in let d = mod-lt (at .cell) {m = run .window} (omega arith) in omega (arith, here .leftmost)
+
+  by-distance : at .offset +ℤ pos (run .window / 2) ≡ pos (at .cell % run .window)
+  unfolding offsetOf
+  by-distance = rw (here .offset) (apart-by (at .cell % run .window) (run .window / 2))
+
+  held : (z : ℤ) → (negℤ (pos 4096) ≤ℤ z) × (z ≤ℤ pos 4096) → toZ w64 (ofZ w64 z) ≡ z
+  held z h = toZ-ofZ (near-fits z (h .0) (h .1))
+
+  low-is : walk .low +ℤ pos (run .window / 2) ≡ pos (l .from)
+  low-is = rw (l .low) (apart-by (l .from) (run .window / 2))
+
+  high-is : walk .high +ℤ pos (run .window / 2) ≡ pos (l .below)
+  high-is = rw (l .high) (apart-by (l .below) (run .window / 2))
+
+  -- the two tests, passed and failed
+  low-true : leZ (toZ w64 (ofZ w64 (walk .low))) (toZ w64 (ofZ w64 (at .offset))) ≡ true → l .from ≤ at .cell % run .window
+  low-true t = let n = small v s l here in shifted-le (walk .low) (at .offset) (run .window / 2) low-is by-distance (leZ-true (walk .low) (at .offset) (rw (held (walk .low) (n .low), held (at .offset) (n .offset)) at t))
+
+  low-false : leZ (toZ w64 (ofZ w64 (walk .low))) (toZ w64 (ofZ w64 (at .offset))) ≡ false → at .cell % run .window < l .from
+  low-false t = let n = small v s l here in shifted-lt (at .offset) (walk .low) (run .window / 2) by-distance low-is (leZ-false (walk .low) (at .offset) (rw (held (walk .low) (n .low), held (at .offset) (n .offset)) at t))
+
+  high-true : ltZ (toZ w64 (ofZ w64 (at .offset))) (toZ w64 (ofZ w64 (walk .high))) ≡ true → at .cell % run .window < l .below
+  high-true t = let n = small v s l here in shifted-lt (at .offset) (walk .high) (run .window / 2) by-distance high-is (ltZ-true (at .offset) (walk .high) (rw (held (at .offset) (n .offset), held (walk .high) (n .high)) at t))
+
+  high-false : ltZ (toZ w64 (ofZ w64 (at .offset))) (toZ w64 (ofZ w64 (walk .high))) ≡ false → l .below ≤ at .cell % run .window
+  high-false t = let n = small v s l here in shifted-le (walk .high) (at .offset) (run .window / 2) high-is by-distance (ltZ-false (at .offset) (walk .high) (rw (held (at .offset) (n .offset), held (walk .high) (n .high)) at t))
+
+  pub step-left : {to : Place} → leZ (toZ w64 (ofZ w64 (walk .low))) (toZ w64 (ofZ w64 (at .offset))) ≡ true → Moved at (walk .left) to → NextLine run source at to
+  step-left {to} t m =
+      let g = l .goes-left (at .cell % run .window) distance-in (low-true t) in
+      let a = g .0 in
+      landed v s to here (g .1)
+      (omega (arith, m .cell, l .left-cells, div-add-mod' (at .cell) (run .window)))
+      (left-of (at .offset) (to .offset) (run .window / 2) (l .A) by-distance (rw (l .left-offset) at (m .offset)) a)
+
+  pub step-right : {to : Place} → leZ (toZ w64 (ofZ w64 (walk .low))) (toZ w64 (ofZ w64 (at .offset))) ≡ false → ltZ (toZ w64 (ofZ w64 (at .offset))) (toZ w64 (ofZ w64 (walk .high))) ≡ true → Moved at (walk .right) to → NextLine run source at to
+  step-right {to} t u m =
+      let g = l .goes-right (at .cell % run .window) distance-in (low-false t) (high-true u) in
+      landed v s to here g
+      (omega (arith, m .cell, l .right-cells, div-add-mod' (at .cell) (run .window)))
+      (right-of (at .offset) (to .offset) (run .window / 2) (l .C) by-distance (rw (l .right-offset) at (m .offset)))
+
+  pub step-both : {mid to : Place} → leZ (toZ w64 (ofZ w64 (walk .low))) (toZ w64 (ofZ w64 (at .offset))) ≡ false → ltZ (toZ w64 (ofZ w64 (at .offset))) (toZ w64 (ofZ w64 (walk .high))) ≡ false → Moved at (walk .left) mid → Moved mid (walk .right) to → NextLine run source at to
+  step-both {mid} {to} t u m m′ =
+      let g = l .goes-both (at .cell % run .window) distance-in (low-false t) (high-false u) in
+      let a = g .0 in
+      landed v s to here (g .1)
+      (omega (arith, m .cell, m′ .cell, l .left-cells, l .right-cells, div-add-mod' (at .cell) (run .window)))
+      (across (at .offset) (mid .offset) (to .offset) (run .window / 2) (l .A) (l .C) by-distance (rw (l .left-offset) at (m .offset)) (rw (l .right-offset) at (m′ .offset)) a)

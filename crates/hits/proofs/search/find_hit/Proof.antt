@@ -1,0 +1,109 @@
+-- `hits::search::find_hit` meets its contract: the rest of the start's own line, then the lines after it. Assumes nothing.
+use borrow.Author.Needs.{needs}
+use native.Mathlib.Omega.{arith}
+use native.Mathlib.Nat.{mod-lt, mod-le}
+use Prim.Native.Nat.{_+_, _-_, _/_, _%_, _≤_}
+use Rattle.scope.proofs.Limits.{cells-few}
+use Rattle.hits.proofs.Cells.{distance-low, own-line, rest-found, rest-none}
+use Rattle.hits.proofs.search.find_hit.Statement.{statement}
+use Rattle.hits.proofs.search.find_hit.Tie as tie
+
+-- the start's own line
+line-in : (c : tie.After-struct-known3) → let a = c .before .before .before .args in a .run .first + a .start / a .run .window ≤ a .run .last
+line-in c = let s = c .before .before .before in own-line (s .pre .0) (s .pre .2)
+
+cast-window : tie.Need-cast-window
+cast-window c = search needs
+
+cast-period : tie.Need-cast-period
+cast-period c = search needs
+
+cast-line : tie.Need-cast-line
+cast-line c = search needs
+
+div-row : tie.Need-div-row
+div-row c = search needs
+
+add-line : tie.Need-add-line
+add-line c = let l = line-in c in record { fits = omega arith }
+
+rem-from : tie.Need-rem-from
+rem-from c = search needs
+
+distance-requires : tie.Need-distance-requires
+distance-requires c κs = let s = c .before .before .before in let l = line-in c in (s .pre .0, s .pre .1, omega (arith, s .pre .0 .ends))
+
+rem-place : tie.Need-rem-place
+rem-place c = search needs
+
+sub-place : tie.Need-sub-place
+sub-place c = let s = c .before .before .before .before in omega (arith, mod-lt (s .args .start % s .args .run .window) (s .pre .1 .ticks))
+
+add-place : tie.Need-add-place
+add-place c =
+    let s = c .before .before .before .before in
+    let low = distance-low (s .pre .0) (s .pre .1) (omega arith) (c .distance .ensures) in
+    record { fits = omega (arith, s .pre .1 .fits) }
+
+rem-place-2 : tie.Need-rem-place-2
+rem-place-2 c = search needs
+
+add-place-2 : tie.Need-add-place-2
+add-place-2 c =
+    let s = c .before .before .before .before in
+    let small = mod-lt (c .distance .result + (s .args .source .period - s .args .start % s .args .run .window % s .args .source .period)) (s .pre .1 .ticks) in
+    let few = s .pre .0 .narrow in
+    let from = mod-lt (s .args .start) {m = s .args .run .window} (omega arith) in
+    record { fits = omega (arith, s .pre .1 .fits, s .pre .0 .wide) }
+
+sub-result : tie.Need-sub-result
+sub-result c = let s = c .before .before .before .before .before in omega (arith, mod-le (s .args .start) (s .args .run .window))
+
+add-result : tie.Need-add-result
+add-result c =
+    let d = c .before in
+    let s = d .before .before .before .before in
+    let f = rest-found (s .pre .0) (s .pre .2) (s .pre .1) (d .distance .ensures) (c .if1 .taken) in
+    record { fits = omega (arith, f .to, cells-few (s .pre .0)) }
+
+returns : tie.Need-returns
+returns c =
+    let d = c .before in
+    let s = d .before .before .before .before in
+    rest-found (s .pre .0) (s .pre .2) (s .pre .1) (d .distance .ensures) (c .if1 .taken)
+
+add-find-from-line : tie.Need-add-find-from-line
+add-find-from-line c = let l = line-in (c .before .before) in record { fits = omega arith }
+
+find-from-line-requires : tie.Need-find-from-line-requires
+find-from-line-requires c κs = let k = c .before .before in let s = k .before .before .before in let l = line-in k in (s .pre .0, s .pre .1, omega arith, omega arith)
+
+returns-2 : tie.Need-returns-2
+returns-2 c =
+    let i = c .before in
+    let d = i .before in
+    let s = d .before .before .before .before in
+    rest-none (s .pre .0) (s .pre .2) (s .pre .1) (d .distance .ensures) (i .if1 .left) (c .find-from-line .ensures)
+
+pub find-hit-spec : {M : Type 1} → statement M
+find-hit-spec =
+    tie.close
+    (tie.spec
+    cast-window
+    cast-period
+    div-row
+    cast-line
+    add-line
+    rem-from
+    distance-requires
+    rem-place
+    sub-place
+    add-place
+    rem-place-2
+    add-place-2
+    sub-result
+    add-result
+    returns
+    add-find-from-line
+    find-from-line-requires
+    returns-2)

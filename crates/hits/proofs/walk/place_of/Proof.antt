@@ -1,0 +1,52 @@
+-- `hits::walk::place_of` meets its contract. Assumes nothing.
+use borrow.Author.Needs.{needs}
+use native.Mathlib.Omega.{arith}
+use native.Mathlib.Nat.{mod-lt, mod-le}
+use Prim.Native.Nat.{_/_, _%_}
+use mathlib.Core.Path.{_∙_}
+use mir.Facts.{toZ-ofZ}
+use Rattle.scope.proofs.Limits.{cells-few}
+use Rattle.hits.proofs.Walks.{fits-at}
+use Rattle.hits.proofs.Plans.{leading, leads-in, begins}
+use Rattle.hits.proofs.walk.place_of.Statement.{statement}
+use Rattle.hits.proofs.walk.place_of.Tie as tie
+
+cast-from : tie.Need-cast-from
+cast-from c = search needs
+
+rem-from : tie.Need-rem-from
+rem-from c = search needs
+
+cast-first : tie.Need-cast-first
+cast-first c = search needs
+
+rem-first : tie.Need-rem-first
+rem-first c = search needs
+
+offset-at-requires : tie.Need-offset-at-requires
+offset-at-requires c κs =
+    let s = c .before .before in
+    let l = leads-in (s .pre .0) (s .pre .1) (s .args .cell) in
+    (omega (arith, s .pre .0 .wide), s .pre .0 .wide)
+
+sub-t6 : tie.Need-sub-t6
+sub-t6 c = let s = c .before .before .before in mod-le (s .args .cell) (s .args .run .window)
+
+add-t8 : tie.Need-add-t8
+add-t8 c =
+    let s = c .before .before .before in
+    let few = cells-few (s .pre .0) in
+    let l = leads-in (s .pre .0) (s .pre .1) (s .args .cell) in
+    record { fits = omega (arith, s .pre .2, s .pre .0 .wide) }
+
+returns : tie.Need-returns
+returns c =
+    let s = c .before .before .before in
+    let l = leads-in (s .pre .0) (s .pre .1) (s .args .cell) in
+    let w = s .pre .0 .wide in
+    begins (s .pre .0) (s .pre .1) (s .args .cell) (toZ-ofZ (fits-at (leading (s .pre .0) (s .pre .1) (s .args .cell)) (s .args .run .window / 2) (c .offset-at .ensures) (omega arith) (omega arith)) ∙ c .offset-at .ensures)
+
+pub place-of-spec : {M : Type 1} → statement M
+place-of-spec =
+    tie.close
+    (tie.spec cast-from rem-from cast-first rem-first offset-at-requires sub-t6 add-t8 returns)

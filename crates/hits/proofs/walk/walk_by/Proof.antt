@@ -1,0 +1,90 @@
+-- `hits::walk::walk_by` meets its contract: the differences are small. Assumes nothing.
+use borrow.Author.Needs.{needs}
+use native.Mathlib.Omega.{arith}
+use Prim.Native.Nat.{ℕ, _/_, _≤_}
+use mathlib.Core.Path.{_≡_, ap}
+use lib.IntN.{ℤ, pos, negℤ, _-ℤ_}
+use lib.Signed.{_≤ℤ_}
+use mir.Syntax.{w64}
+use mir.Val.{SFits, toZ, ofZ}
+use mir.Facts.{toZ-ofZ}
+use Rattle.signed.proofs.Parts.{parts, sum, apart, neg-up, neg-dn}
+use Rattle.vectors.specs.declared.Vector.{Vector}
+use Rattle.hits.specs.Walk.{Small}
+use Rattle.hits.proofs.Walks.{near, near-fits}
+use Rattle.hits.proofs.walk.walk_by.Statement.{statement}
+use Rattle.hits.proofs.walk.walk_by.Tie as tie
+
+-- an edge of the window less a vector's offset
+record Held (edge : ℤ) (v : Vector) : Type 0 where
+  edge-fits : SFits w64 edge
+  offset-fits : SFits w64 (v .offset)
+  fits : SFits w64 (edge -ℤ v .offset)
+
+held : {edge : ℤ} {v : Vector} {window : ℕ} (d : ℕ) → Small v window → d ≤ window → edge ≡ pos d -ℤ pos (window / 2) → Held edge v
+held {edge} {v} {window} d h l is =
+    let w = h .wide in
+    let n = near d (window / 2) (omega arith) (omega arith) in
+    let low : negℤ (pos 4096) ≤ℤ edge = rw is (n .0) in
+    let high : edge ≤ℤ pos 4096 = rw is (n .1) in
+    let a = h .left in
+    let b = h .right in
+    let v-low : negℤ (pos 4096) ≤ℤ v .offset = omega (arith, parts, neg-up (pos 4096), neg-dn (pos 4096), neg-up (pos window), neg-dn (pos window)) in
+    let v-high : v .offset ≤ℤ pos 4096 = omega (arith, parts) in
+    record {
+      edge-fits = near-fits edge low high;
+      offset-fits = near-fits (v .offset) v-low v-high;
+      fits = omega (arith, parts, sum edge (negℤ (v .offset)), neg-up (v .offset), neg-dn (v .offset), neg-up (pos 4096), neg-dn (pos 4096), apart edge, apart (v .offset), apart (edge -ℤ v .offset));
+    }
+
+-- the window's left edge and its right edge
+low-held : (c : tie.After-offset-at) → Held (c .offset-at .result) (c .before .before .before .args .left)
+low-held c = held 0 (c .before .before .before .pre .0) (omega arith) (c .offset-at .ensures)
+
+high-held : (c : tie.After-offset-at2) → Held (c .offset-at2 .result) (c .before .before .before .before .before .before .args .right)
+high-held c = let s = c .before .before .before .before .before .before in held (s .args .width) (s .pre .1) (s .pre .2) (c .offset-at2 .ensures)
+
+step-of-requires : tie.Need-step-of-requires
+step-of-requires c κs = search needs
+
+step-of-requires-2 : tie.Need-step-of-requires-2
+step-of-requires-2 c κs = search needs
+
+offset-at-requires : tie.Need-offset-at-requires
+offset-at-requires c κs = search needs
+
+sub-t8 : tie.Need-sub-t8
+sub-t8 c = let h = low-held (c .before .before) in simp (toZ-ofZ (h .edge-fits), toZ-ofZ (h .offset-fits)) (h .fits)
+
+offset-at-requires-2 : tie.Need-offset-at-requires-2
+offset-at-requires-2 c κs = search needs
+
+sub-t11 : tie.Need-sub-t11
+sub-t11 c = let h = high-held (c .before .before) in simp (toZ-ofZ (h .edge-fits), toZ-ofZ (h .offset-fits)) (h .fits)
+
+returns : tie.Need-returns
+returns c =
+    let right = c .before .before in
+    let left = right .before .before .before in
+    let l = low-held left in
+    let r = high-held right in
+    record {
+      left-offset = left .before .before .step-of .ensures .0;
+      left-cells = left .before .before .step-of .ensures .1;
+      right-offset = left .before .step-of2 .ensures .0;
+      right-cells = left .before .step-of2 .ensures .1;
+      low = simp (toZ-ofZ (l .edge-fits), toZ-ofZ (l .offset-fits), toZ-ofZ (l .fits)) (ap (λ z. z -ℤ left .before .before .before .args .left .offset) (left .offset-at .ensures));
+      high = simp (toZ-ofZ (r .edge-fits), toZ-ofZ (r .offset-fits), toZ-ofZ (r .fits)) (ap (λ z. z -ℤ left .before .before .before .args .right .offset) (right .offset-at2 .ensures));
+    }
+
+pub walk-by-spec : {M : Type 1} → statement M
+walk-by-spec =
+    tie.close
+    (tie.spec
+    step-of-requires
+    step-of-requires-2
+    offset-at-requires
+    sub-t8
+    offset-at-requires-2
+    sub-t11
+    returns)

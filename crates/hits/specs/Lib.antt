@@ -1,0 +1,4 @@
+pub mod Promise
+pub mod Search
+pub mod Walk
+pub mod List

@@ -1,0 +1,107 @@
+-- What the inner steps of the walk tell each other. A reader of the promises needs none of this.
+use Prim.Native.Nat.{ℕ, _+_, _-_, _*_, _/_, _%_, _^_, _≤_, _<_, min}
+use mathlib.Core.Path.{_≡_}
+use mathlib.Core.Bool.{true, false}
+use lib.IntN.{ℤ, pos, negℤ, _+ℤ_, _-ℤ_}
+use lib.Signed.{_≤ℤ_, _<ℤ_}
+use Rattle.lattice.proofs.First.{Next}
+use Rattle.scope.specs.declared.Run.{Run}
+use Rattle.scope.specs.declared.Source.{Source}
+use Rattle.scope.specs.Run.{Valid, ValidSource, cellsOf, lineOf, offsetOf}
+use Rattle.scope.specs.Hit.{isHit}
+use Rattle.vectors.specs.declared.Vector.{Vector}
+use Rattle.hits.specs.declared.walk.Step.{Step}
+use Rattle.hits.specs.declared.walk.Place.{Place}
+use Rattle.hits.specs.declared.walk.Walk.{Walk}
+
+-- A vector that is short enough to be a step: it leads on, and its offset is less than the window.
+pub record Small (v : Vector) (window : ℕ) : Type 0 where
+  pub wide : window ≤ 4096
+  pub few : v .line ≤ 2147483647
+  pub rises : 1 ≤ v .line
+  pub left : negℤ (pos window) ≤ℤ v .offset
+  pub right : v .offset ≤ℤ pos window
+
+-- A walk that goes by the vectors `left` and `right` in a window that begins at A = -I/2 and is `width` wide.
+pub record GoesBy (left right : Vector) (window width : ℕ) (walk : Walk) : Type 0 where
+  pub left-offset : walk .left .offset ≡ left .offset
+  pub left-cells : pos (walk .left .cells) ≡ pos (left .line * window) +ℤ left .offset
+  pub right-offset : walk .right .offset ≡ right .offset
+  pub right-cells : pos (walk .right .cells) ≡ pos (right .line * window) +ℤ right .offset
+  pub low : walk .low ≡ (pos 0 -ℤ pos (window / 2)) -ℤ left .offset
+  pub high : walk .high ≡ (pos width -ℤ pos (window / 2)) -ℤ right .offset
+
+-- A place and a step whose sums stay far from the ends of the numbers.
+pub record Movable (at : Place) (step : Step) : Type 0 where
+  pub offset-low : negℤ (pos 16384) ≤ℤ at .offset
+  pub offset-high : at .offset ≤ℤ pos 16384
+  pub step-low : negℤ (pos 4096) ≤ℤ step .offset
+  pub step-high : step .offset ≤ℤ pos 4096
+  pub cell : at .cell ≤ 2 ^ 45
+  pub cells : step .cells ≤ 2 ^ 44
+
+-- The place `to` is the place `at` a step on.
+pub record Moved (at : Place) (step : Step) (to : Place) : Type 0 where
+  pub offset : to .offset ≡ at .offset +ℤ step .offset
+  pub cell : to .cell ≡ at .cell + step .cells
+
+-- The part of a line that has its first hit: the window, or a period where that is less.
+abbrev pub width : Run → Source → ℕ
+width run source = min (source .period) (run .window)
+
+-- The walk leads from the first hit of each line to the first hit of the next line that has one: `left` moves A to the left
+-- in β lines, `right` moves C to the right in δ lines, and from a distance d it goes left, right, or by both.
+pub record Leads (run : Run) (source : Source) (walk : Walk) : Type 0 where
+  pub A : ℕ
+  pub β : ℕ
+  pub C : ℕ
+  pub δ : ℕ
+  pub from : ℕ
+  pub below : ℕ
+  pub left-offset : walk .left .offset ≡ negℤ (pos A)
+  pub left-cells : walk .left .cells + A ≡ β * run .window
+  pub right-offset : walk .right .offset ≡ pos C
+  pub right-cells : walk .right .cells ≡ δ * run .window + C
+  pub low : walk .low ≡ pos from -ℤ pos (run .window / 2)
+  pub high : walk .high ≡ pos below -ℤ pos (run .window / 2)
+  pub from-short : from ≤ run .window
+  pub below-short : below ≤ run .window
+  pub left-short : A ≤ run .window
+  pub left-few : β ≤ source .period
+  pub right-short : C ≤ run .window
+  pub right-few : δ ≤ source .period
+  pub goes-left : (d : ℕ) → d < width run source → from ≤ d → (A ≤ d) × Next (source .period) (run .interval % source .period) (width run source) d β (d - A)
+  pub goes-right : (d : ℕ) → d < width run source → d < from → d < below → Next (source .period) (run .interval % source .period) (width run source) d δ (d + C)
+  pub goes-both : (d : ℕ) → d < width run source → d < from → below ≤ d → (A ≤ d + C) × Next (source .period) (run .interval % source .period) (width run source) d (β + δ) (d + C - A)
+
+-- The place is the first hit of its line.
+pub record Stands (run : Run) (source : Source) (at : Place) : Type 0 where
+  pub hit : isHit run source (at .cell) ≡ true
+  pub leftmost : at .cell % run .window < source .period
+  pub offset : at .offset ≡ offsetOf run (at .cell)
+
+-- A walk of some source over some run, at the first hit of a line of it.
+pub record Walking (walk : Walk) (at : Place) : Type 0 where
+  pub run : Run
+  pub source : Source
+  pub valid : Valid run
+  pub source-valid : ValidSource source
+  pub leads : Leads run source walk
+  pub stands : Stands run source at
+  pub inside : at .cell < cellsOf run
+
+-- The place `to` is the first hit of the next line after `at` that has one.
+pub record NextLine (run : Run) (source : Source) (at to : Place) : Type 0 where
+  pub stands : Stands run source to
+  pub later : lineOf run (at .cell) < lineOf run (to .cell)
+  pub rises : at .cell < to .cell
+  pub none : (z : ℕ) → lineOf run (at .cell) < lineOf run z → z < to .cell → isHit run source z ≡ false
+
+-- The same, for every run and source that the walk is for.
+abbrev pub Walks : Walk → Place → Place → Type 0
+Walks walk at to = (run : Run) (source : Source) → Valid run → ValidSource source → Leads run source walk → Stands run source at → NextLine run source at to
+
+-- The place is that of the first hit of the line of a hit cell.
+pub record Begins (run : Run) (source : Source) (cell : ℕ) (at : Place) : Type 0 where
+  pub line : at .cell / run .window ≡ cell / run .window
+  pub stands : isHit run source cell ≡ true → Stands run source at

@@ -1,0 +1,79 @@
+// The hits of a source in a run: the first from a cell on, and their listing in a lent room.
+// Every function is proved. `first_hit` and `list_hits` are the public operations, and they ask nothing of their caller.
+use scope::Run;
+use scope::RunCell;
+use scope::Source;
+use scope::Verdict;
+ghost use mathlib.Core.Path.{_≡_};
+ghost use Rattle.scope.specs.Refusal.{complaint};
+ghost use Rattle.scope.specs.Reply.{verdict};
+ghost use Rattle.hits.specs.Promise.{firstHitTests, FirstHitPromise, ListingPromise};
+
+pub mod list;
+pub mod search;
+pub mod walk;
+
+// The reply of the first-hit call.
+pub enum FirstHit {
+    // The smallest hit cell not below the start.
+    At(RunCell),
+    // No cell from the start on is hit.
+    Nothing,
+    // The refusal's number.
+    Refused(u8),
+}
+
+// The reply of the listing call.
+pub enum Listing {
+    // So many hits were written, and none is left.
+    Done(usize),
+    // So many hits were written, and the next one is this.
+    More(usize, RunCell),
+    // The refusal's number.
+    Refused(u8),
+}
+
+// Inner step. What the tests come to that both calls begin with: the run, the source, the start.
+fn judge(run: Run, source: Source, start: RunCell) -> Verdict
+    ensures { λ r. ⌜ r ≡ verdict (complaint (firstHitTests run source start)) ⌝ }
+{
+    if let Verdict::Refused(number) = scope::judge_run(run) {
+        return Verdict::Refused(number);
+    }
+    if let Verdict::Refused(number) = scope::judge_source(source) {
+        return Verdict::Refused(number);
+    }
+    if scope::cells(run) <= start.0 {
+        return Verdict::Refused(8);
+    }
+    Verdict::Fine
+}
+
+// Public operation. The smallest hit cell of a run that is not below the start. A point of the source is carried down the
+// division sequence of 002 into the window, so that the cost is O(log p) however far the hit is.
+pub fn first_hit(run: Run, source: Source, start: RunCell) -> FirstHit
+    ensures { λ r. ⌜ FirstHitPromise run source start r ⌝ }
+{
+    if let Verdict::Refused(number) = judge(run, source, start) {
+        return FirstHit::Refused(number);
+    }
+    let cell = search::find_hit(run, source, start.0);
+    if cell < scope::cells(run) {
+        return FirstHit::At(RunCell(cell));
+    }
+    FirstHit::Nothing
+}
+
+// Public operation. The hit cells of a run that are not below the start, written into the room in rising order; what comes
+// back is their count and, if one is left that did not fit, the next. Nothing is stored before the last test is passed.
+pub fn list_hits(run: Run, source: Source, start: RunCell, room: &mut [u64]) -> Listing
+    ensures { λ r. ⌜ ListingPromise run source start (now (room .entry)) r (now (room .exit)) ⌝ }
+{
+    if let Verdict::Refused(number) = judge(run, source, start) {
+        return Listing::Refused(number);
+    }
+    if room.len() == 0 {
+        return Listing::Refused(9);
+    }
+    list::write_hits(run, source, start.0, room)
+}

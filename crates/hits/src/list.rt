@@ -1,0 +1,49 @@
+// The listing itself, of a run and a source that passed the tests.
+use crate::Listing;
+use crate::search;
+use crate::walk;
+use scope::Run;
+use scope::RunCell;
+use scope::Source;
+ghost use mathlib.Core.Path.{_≡_};
+ghost use Prim.Native.Nat.{_<_};
+ghost use Rattle.scope.specs.Run.{Valid, ValidSource, cellsOf};
+ghost use Rattle.hits.specs.List.{Lists};
+
+// Inner step. The hits from `start` on, written until there are no more or the room is full: line by line, and on a line at
+// offsets that lie a period apart. `at` is the first hit of the line, from which the walk goes on to the next line that has
+// one; `cell` and `offset` are those of the hit that is written next.
+pub fn write_hits(run: Run, source: Source, start: u64, room: &mut [u64]) -> Listing
+    requires { ⌜ Valid run × ValidSource source × (start < cellsOf run) ⌝ }
+    ensures { λ r. ⌜ Lists run source start (now (room .entry)) r (now (room .exit)) ⌝ }
+{
+    let all = scope::cells(run);
+    let window = run.window;
+    let period = source.period;
+    let end = walk::offset_at(window as u64, window);
+    let walk = walk::plan(run, source);
+    let mut cell = search::find_hit(run, source, start);
+    let mut offset = walk::offset_at(cell % window as u64, window);
+    let mut at = walk::place_of(run, source, cell);
+    let mut next = all;
+    let mut n: usize = 0;
+    'lines: while cell < all {
+        while offset < end {
+            if n == room.len() {
+                next = cell;
+                break 'lines;
+            }
+            room[n] = cell;
+            n += 1;
+            offset += period as i64;
+            cell += period as u64;
+        }
+        at = walk.next(at);
+        cell = at.cell;
+        offset = at.offset;
+    }
+    if next < all {
+        return Listing::More(n, RunCell(next));
+    }
+    Listing::Done(n)
+}

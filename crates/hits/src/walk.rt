@@ -1,0 +1,133 @@
+// The walk of a source over a run: from the first hit of a line to the first hit of the next line that has one.
+// What it goes by is worked out once; a step is then two comparisons and two or four sums.
+use scope::Run;
+use scope::Source;
+use vectors::Basis;
+use vectors::Vector;
+ghost use mathlib.Core.Path.{_≡_};
+ghost use mathlib.Core.Bool.{true};
+ghost use Prim.Native.Nat.{ℕ, _+_, _-_, _*_, _/_, _%_, _≤_, _<_, _^_, min};
+ghost use lib.IntN.{pos, _+ℤ_, _-ℤ_};
+ghost use lib.Signed.{_≤ℤ_, _<ℤ_};
+ghost use Rattle.scope.specs.Run.{Valid, ValidSource, cellsOf};
+ghost use Rattle.scope.specs.Hit.{isHit};
+ghost use Rattle.hits.specs.Walk.{Small, GoesBy, Begins, Leads, Movable, Moved, Walking, Walks};
+
+// A step of the walk: so many ticks of offset, so many cells on.
+pub struct Step {
+    pub offset: i64,
+    pub cells: u64,
+}
+
+// Where the walk stands: the first hit of a line.
+pub struct Place {
+    pub offset: i64,
+    pub cell: u64,
+}
+
+// What the walk goes by: the steps (α, β) and (γ, δ), and from where and up to where each stays in the window.
+pub struct Walk {
+    pub left: Step,
+    pub right: Step,
+    // A - α: from this offset on the step to the left stays in the window
+    pub low: i64,
+    // A + I - γ: below this offset the step to the right does
+    pub high: i64,
+}
+
+// Inner step. A vector of the lattice as a step: each of its lines has a window's width of cells.
+fn step_of(v: Vector, window: u32) -> Step
+    requires { ⌜ Small v window ⌝ }
+    ensures { λ r. ⌜ (r .offset ≡ v .offset) × (pos (r .cells) ≡ pos (v .line * window) +ℤ v .offset) ⌝ }
+{
+    Step {
+        offset: v.offset,
+        cells: ((v.line * window as u64) as i64 + v.offset) as u64,
+    }
+}
+
+// Inner step. The offset at a distance from the window's left edge.
+pub fn offset_at(distance: u64, window: u32) -> i64
+    requires { ⌜ (distance ≤ 4096) × (window ≤ 4096) ⌝ }
+    ensures { λ r. ⌜ r ≡ pos distance -ℤ pos (window / 2) ⌝ }
+{
+    distance as i64 - (window / 2) as i64
+}
+
+// Inner step. The walk that goes by two vectors, in a window that begins at A and is `width` wide.
+fn walk_by(left: Vector, right: Vector, window: u32, width: u32) -> Walk
+    requires { ⌜ Small left window × Small right window × (width ≤ window) ⌝ }
+    ensures { λ r. ⌜ GoesBy left right window width r ⌝ }
+{
+    Walk {
+        left: step_of(left, window),
+        right: step_of(right, window),
+        low: offset_at(0, window) - left.offset,
+        high: offset_at(width as u64, window) - right.offset,
+    }
+}
+
+// Inner step. The smaller of two numbers.
+fn narrower(a: u32, b: u32) -> u32
+    ensures { λ r. ⌜ r ≡ min a b ⌝ }
+{
+    if a < b { a } else { b }
+}
+
+// Inner step. The walk of a source over a run. Where the period is less than the window, each line has its first hit within
+// a period from the left edge, so that the vectors are those of a window as wide as the period. A single vector leads
+// neither left nor right, so that the walk never goes by the other.
+pub fn plan(run: Run, source: Source) -> Walk
+    requires { ⌜ Valid run × ValidSource source ⌝ }
+    ensures { λ r. ⌜ Leads run source r ⌝ }
+{
+    let window = run.window;
+    let period = source.period;
+    let width = narrower(period, window);
+    match vectors::find_basis(period, run.interval % period, width) {
+        Basis::Two(left, right) => walk_by(left, right, window, width),
+        Basis::One(only) => walk_by(only, only, window, width),
+    }
+}
+
+// Inner step. The place of the first hit of a hit cell's line.
+pub fn place_of(run: Run, source: Source, cell: u64) -> Place
+    requires { ⌜ Valid run × ValidSource source × (cell ≤ cellsOf run) ⌝ }
+    ensures { λ r. ⌜ Begins run source cell r ⌝ }
+{
+    let from = cell % run.window as u64;
+    let first = from % source.period as u64;
+    Place {
+        offset: offset_at(first, run.window),
+        cell: cell - from + first,
+    }
+}
+
+impl Place {
+    // Inner step. The place a step on.
+    fn moved(self, step: Step) -> Place
+        requires { ⌜ Movable self step ⌝ }
+        ensures { λ r. ⌜ Moved self step r ⌝ }
+    {
+        Place {
+            offset: self.offset + step.offset,
+            cell: self.cell + step.cells,
+        }
+    }
+}
+
+impl Walk {
+    // Inner step. The first hit of the next line that has one: 002's proposition 2. Just one of its cases applies.
+    pub fn next(self, at: Place) -> Place
+        requires { ⌜ Walking self at ⌝ }
+        ensures { λ r. ⌜ (r .cell < 2 ^ 46) × Walks self at r ⌝ }
+    {
+        if at.offset >= self.low {
+            return at.moved(self.left);
+        }
+        if at.offset < self.high {
+            return at.moved(self.right);
+        }
+        at.moved(self.left).moved(self.right)
+    }
+}

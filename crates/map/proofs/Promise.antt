@@ -1,0 +1,52 @@
+-- The promise of the adding call: what makes it, and that no second reply and no second map fits. Assumes nothing.
+use Prim.Native.Nat.{ℕ}
+use native.Mathlib.Omega.{arith}
+use mathlib.Core.Logic.{_↔_}
+use mathlib.Core.Option.{Option, some, none}
+use mathlib.Core.Path.{_≡_, refl, sym, _∙_}
+use mathlib.Core.List.{List}
+use Rattle.scope.specs.declared.Run.{Run}
+use Rattle.scope.specs.Refusal.{Complaint, Tests, complaint}
+use Rattle.scope.specs.Reply.{refused, answered, reply}
+use Rattle.scope.proofs.Judged.{Fails, Passes, refuse-reply, refuse-stored, grant-reply, grant-stored}
+use Rattle.map.specs.declared.Added.{Added}
+use Rattle.map.specs.declared.Added.the-variants.{Done, Refused}
+use Rattle.scope.specs.Entry.{entriesOf}
+use Rattle.map.specs.Map.{mapTests, added, says, MapPromise}
+
+module _ {run : Run} {periods weights map : List ℕ} where
+  pub refused-call : {n : ℕ} → Fails (mapTests 255 run periods weights map) n → MapPromise run periods weights map (Refused n) map
+  refused-call f = record { replies = refuse-reply tt f; stores = refuse-stored map (added 255 run (entriesOf periods weights) map) f }
+
+  pub granted-call : {after : List ℕ} → Passes (mapTests 255 run periods weights map) → after ≡ added 255 run (entriesOf periods weights) map → MapPromise run periods weights map Done after
+  granted-call p e = record { replies = grant-reply tt p; stores = e ∙ grant-stored map (added 255 run (entriesOf periods weights) map) p }
+
+  -- what the tests' passing makes of the call
+  pub stores-added : {answer : Added} {after : List ℕ} → Passes (mapTests 255 run periods weights map) → MapPromise run periods weights map answer after → (says answer ≡ answered tt) × (after ≡ added 255 run (entriesOf periods weights) map)
+  stores-added p m = (m .replies ∙ sym (grant-reply tt p), m .stores ∙ sym (grant-stored map (added 255 run (entriesOf periods weights) map) p))
+
+-- the answer is a refusal with the number n exactly if the complaint about the call has that number
+pub refused-exactly : {run : Run} {periods weights map : List ℕ} {answer : Added} {after : List ℕ} (n : ℕ) → MapPromise run periods weights map answer after → (says answer ≡ refused n) ↔ Fails (mapTests 255 run periods weights map) n
+refused-exactly {run} {periods} {weights} {map} n m = (λ e. go (complaint tests) refl (sym (m .replies) ∙ e), λ f. m .replies ∙ sym (refuse-reply tt f))
+  where
+    tests : Tests
+    tests = mapTests 255 run periods weights map
+
+    go : (o : Option Complaint) → complaint tests ≡ o → reply {A = Unit {0}} o tt ≡ refused n → Fails tests n
+    go none i e = absurd (let z : _≡_ {A = ℕ} 0 1 = cc in omega arith)
+    go (some c) i e = record { blames = c; is = i; numbered = cc }
+
+-- "A refused call .. stores nothing in anything lent."
+pub refused-keeps : {run : Run} {periods weights map : List ℕ} {answer : Added} {after : List ℕ} (n : ℕ) → MapPromise run periods weights map answer after → says answer ≡ refused n → after ≡ map
+refused-keeps {run} {periods} {weights} {map} n m e = m .stores ∙ sym (refuse-stored map (added 255 run (entriesOf periods weights) map) (refused-exactly n m .0 e))
+
+-- an answer is told by what it says
+pub says-injective : (a b : Added) → says a ≡ says b → a ≡ b
+says-injective Done Done e = refl
+says-injective Done (Refused n) e = cc
+says-injective (Refused n) Done e = cc
+says-injective (Refused n) (Refused m) e = cc
+
+-- "That no second reply fits is proved."
+pub map-unique : {run : Run} {periods weights map : List ℕ} {a b : Added} {after other : List ℕ} → MapPromise run periods weights map a after → MapPromise run periods weights map b other → (a ≡ b) × (after ≡ other)
+map-unique {run} {periods} {weights} {map} {a} {b} m n = (says-injective a b (m .replies ∙ sym (n .replies)), m .stores ∙ sym (n .stores))

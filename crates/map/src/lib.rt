@@ -1,0 +1,204 @@
+// The map: every cell's sum of the weights of the sources that hit it, up to 255.
+// Every function is proved. `add_to_map` is the one public operation, and it asks nothing of its caller.
+use scope::BlockCell;
+use scope::Run;
+use scope::Source;
+use scope::Verdict;
+ghost use mathlib.Core.Path.{_≡_};
+ghost use mathlib.Core.List.{[], _∷_};
+ghost use Prim.Native.Nat.{_+_, _≤_, _<_, _^_};
+ghost use lib.ListN.{length};
+ghost use Rattle.scope.specs.Run.{Valid, ValidSource, IsBlock, cellsOf};
+ghost use Rattle.scope.specs.Entry.{entriesOf};
+ghost use Rattle.map.specs.Sum.{capped, raised};
+ghost use Rattle.map.specs.Map.{added, MapPromise};
+ghost use Rattle.map.specs.Inner.{Ready, chosen, spaced};
+
+// The reply of the adding call.
+pub enum Added {
+    // Every cell holds its new value.
+    Done,
+    // The refusal's number; no cell was touched.
+    Refused(u8),
+}
+
+// Maps longer than this are gone through in blocks.
+const LONG: usize = 1048576;
+// So many bytes of the map are in a block.
+const BLOCK: u32 = 65536;
+// A source with a shorter period comes back to the same bytes of memory so often that blocks pay.
+const SHORT: u32 = 2048;
+// No period is so long.
+const PERIODS: u32 = 2147483648;
+
+// A cell's new value: its old one and the weight, or 255 if that is more. The test stays within a byte.
+fn plus(cell: u8, weight: u8) -> u8
+    ensures { λ r. ⌜ r ≡ capped 255 (cell + weight) ⌝ }
+{
+    if cell > 255 - weight {
+        255
+    } else {
+        cell + weight
+    }
+}
+
+// Adds a weight to the cells of a line at the distances start, start + period, and so on.
+fn add_line(line: &mut [u8], start: usize, period: usize, weight: u8)
+    requires { ⌜ (start < period) × (period < 2 ^ 32) ⌝ }
+    ensures { λ _. ⌜ now (line .exit) ≡ raised 255 (spaced period start weight) 0 (now (line .entry)) ⌝ }
+{
+    let mut d = start;
+    while d < line.len() {
+        line[d] = plus(line[d], weight);
+        d += period;
+    }
+}
+
+// Adds a source to the map of a run line by line. From a line to the next the source's first distance grows by the
+// interval: that is one sum, less a period if it comes to one or more, and no division.
+fn add_rows(run: Run, source: Source, weight: u8, map: &mut [u8])
+    requires { ⌜ Valid run × ValidSource source × (length (now map) ≡ cellsOf run) ⌝ }
+    ensures { λ _. ⌜ now (map .exit) ≡ added 255 run (record { source = source; weight = weight } ∷ []) (now (map .entry)) ⌝ }
+{
+    let window = run.window as usize;
+    let period = source.period as usize;
+    let step = run.interval as usize % period;
+    let mut start = hits::search::distance(run, source, run.first as u64) as usize;
+    let mut base: usize = 0;
+    while base < map.len() {
+        add_line(&mut map[base..base + window], start, period, weight);
+        base += window;
+        start += step;
+        if period <= start {
+            start -= period;
+        }
+    }
+}
+
+// Adds a source with at most one hit on a line to the map of a run, hit by hit. The vectors are worked out once; from a hit
+// to the next it is then two comparisons and a few sums, however many lines lie between.
+fn add_hits(run: Run, source: Source, weight: u8, map: &mut [u8])
+    requires { ⌜ Valid run × ValidSource source × (run .window ≤ source .period) × (length (now map) ≡ cellsOf run) ⌝ }
+    ensures { λ _. ⌜ now (map .exit) ≡ added 255 run (record { source = source; weight = weight } ∷ []) (now (map .entry)) ⌝ }
+{
+    let walk = hits::walk::plan(run, source);
+    let mut at = hits::walk::place_of(run, source, hits::search::find_hit(run, source, 0));
+    let mut cell = at.cell as usize;
+    while cell < map.len() {
+        map[cell] = plus(map[cell], weight);
+        at = walk.next(at);
+        cell = at.cell as usize;
+    }
+}
+
+// Adds one source to the map of a run.
+fn add_source(run: Run, source: Source, weight: u8, map: &mut [u8])
+    requires { ⌜ Valid run × ValidSource source × (length (now map) ≡ cellsOf run) ⌝ }
+    ensures { λ _. ⌜ now (map .exit) ≡ added 255 run (record { source = source; weight = weight } ∷ []) (now (map .entry)) ⌝ }
+{
+    if source.period < run.window {
+        add_rows(run, source, weight, map);
+    } else {
+        add_hits(run, source, weight, map);
+    }
+}
+
+// Adds the sources with low ≤ period < high to the map of a run, one after the other.
+fn add_chosen(run: Run, periods: &[u32], weights: &[u32], low: u32, high: u32, map: &mut [u8])
+    requires { ⌜ Ready run (now periods) (now weights) (now map) ⌝ }
+    ensures { λ _. ⌜ now (map .exit) ≡ added 255 run (chosen low high (entriesOf (now (periods .entry)) (now (weights .entry)))) (now (map .entry)) ⌝ }
+{
+    let mut place = 0;
+    while place < periods.len() {
+        let period = periods[place];
+        if low <= period {
+            if period < high {
+                add_source(run, Source { period }, weights[place] as u8, map);
+            }
+        }
+        place += 1;
+    }
+}
+
+// The block of a run that starts at a line and has so many lines, or as many as the run has from there on.
+fn block_from(run: Run, first: u32, lines: u32) -> Run
+    requires { ⌜ Valid run × (run .first ≤ first) × (first ≤ run .last) × (1 ≤ lines) ⌝ }
+    ensures { λ r. ⌜ IsBlock run r × (r .first ≡ first) × (first ≤ r .last) ⌝ }
+{
+    let last = if run.last - first < lines {
+        run.last
+    } else {
+        first + (lines - 1)
+    };
+    Run {
+        window: run.window,
+        interval: run.interval,
+        first,
+        last,
+    }
+}
+
+// Adds the sources with period < high to the map of a run, one block of so many lines after the other.
+fn add_blocks(run: Run, periods: &[u32], weights: &[u32], high: u32, lines: u32, map: &mut [u8])
+    requires { ⌜ Ready run (now periods) (now weights) (now map) × (1 ≤ lines) ⌝ }
+    ensures { λ _. ⌜ now (map .exit) ≡ added 255 run (chosen 0 high (entriesOf (now (periods .entry)) (now (weights .entry)))) (now (map .entry)) ⌝ }
+{
+    let mut first = run.first;
+    while first <= run.last {
+        let block = block_from(run, first, lines);
+        let start = BlockCell(0).in_run(run, block).0 as usize;
+        let end = BlockCell(scope::cells(block)).in_run(run, block).0 as usize;
+        add_chosen(block, periods, weights, 0, high, &mut map[start..end]);
+        first = block.last + 1;
+    }
+}
+
+// The shortest period of a list. The cells do not depend on it, only the time does.
+fn shortest(periods: &[u32]) -> u32 {
+    let mut least: u32 = 4294967295;
+    let mut at = 0;
+    while at < periods.len() {
+        if periods[at] < least {
+            least = periods[at];
+        }
+        at += 1;
+    }
+    least
+}
+
+// Adds all sources to the map of a run: in blocks those with short periods, where the map is long, and in one go the others.
+fn add_all(run: Run, periods: &[u32], weights: &[u32], map: &mut [u8])
+    requires { ⌜ Ready run (now periods) (now weights) (now map) ⌝ }
+    ensures { λ _. ⌜ now (map .exit) ≡ added 255 run (entriesOf (now (periods .entry)) (now (weights .entry))) (now (map .entry)) ⌝ }
+{
+    if LONG < map.len() {
+        if shortest(periods) < SHORT {
+            add_blocks(run, periods, weights, SHORT, BLOCK / run.window, map);
+            add_chosen(run, periods, weights, SHORT, PERIODS, map);
+            return;
+        }
+    }
+    add_chosen(run, periods, weights, 0, PERIODS, map);
+}
+
+// Public operation. Adds to every cell of a run's map the weights of all listed sources that hit it, up to 255.
+// Refused, in this order: 1, 2, 3 for the run, 10 for lists of unequal length, 4 or 7 for the first source at fault, 9 for a
+// map not of the run's length. All of that is looked at before the first store.
+pub fn add_to_map(run: Run, periods: &[u32], weights: &[u32], map: &mut [u8]) -> Added
+    ensures { λ r. ⌜ MapPromise run (now (periods .entry)) (now (weights .entry)) (now (map .entry)) r (now (map .exit)) ⌝ }
+{
+    if let Verdict::Refused(number) = scope::judge_run(run) {
+        return Added::Refused(number);
+    }
+    if periods.len() != weights.len() {
+        return Added::Refused(10);
+    }
+    if let Verdict::Refused(number) = sources::judge_entries(periods, weights) {
+        return Added::Refused(number);
+    }
+    if map.len() as u64 != scope::cells(run) {
+        return Added::Refused(9);
+    }
+    add_all(run, periods, weights, map);
+    Added::Done
+}

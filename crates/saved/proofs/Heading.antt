@@ -1,0 +1,100 @@
+-- Block 0: its lengths and bytes, what it tells, and that it passes its tests exactly if it is laid down for the run that it tells. Assumes nothing.
+use Prim.Native.Nat.{ℕ, _+_, _≤_}
+use mathlib.Core.Path.{_≡_, refl, sym, ap, _∙_}
+use mathlib.Core.Bool.{true, not}
+use mathlib.Core.List.{List, [], _∷_, _++_}
+use native.Mathlib.Nat.{le-of-eq}
+use native.Mathlib.Omega.{arith}
+use borrow.Author.Tests.{not-false}
+use lib.ListN.{length, getD, take, drop, replicate, length-append, length-take, length-drop}
+use lib.Seq.{getD-take, drop-cons, take-add, take-take, drop-drop}
+use Rattle.scope.specs.declared.Run.{Run}
+use Rattle.scope.specs.Run.{Valid}
+use Rattle.scope.proofs.Judged.{Passes, sound, both}
+use Rattle.scope.proofs.Limits.{passes-first, passes-then, passes-when}
+use Rattle.saved.specs.Block.{four, fourAt, filled, sealed, blockOf, zeros}
+use Rattle.saved.specs.File.{heading, blockAt, runOf, headingTests}
+use Rattle.saved.proofs.Lists.{take-drop-take}
+use Rattle.saved.proofs.Filling.{zeros-replicate}
+use Rattle.saved.proofs.Bytes.{Bytes, bytes-append, bytes-four, bytes-blockAt}
+use Rattle.saved.proofs.Block.{length-four}
+use Rattle.saved.proofs.Cells.{contents-at, length-blockAt}
+use Rattle.saved.proofs.Sealing.{block-passes, block-is, four-back}
+use Rattle.saved.proofs.Differs.{agrees, same}
+
+pub length-heading : (run : Run) → length (heading run) ≡ 20
+unfolding heading
+length-heading run = simp (length-append, length-four)
+
+bytes-heading : (run : Run) → Bytes (heading run)
+unfolding heading
+bytes-heading run = (
+  omega arith,
+  (
+    omega arith,
+    (
+      omega arith,
+      (
+        omega arith,
+        bytes-append (four (run .window) ++ four (run .interval) ++ four (run .first)) (four (run .last))
+            (bytes-append (four (run .window) ++ four (run .interval)) (four (run .first))
+            (bytes-append (four (run .window)) (four (run .interval)) (bytes-four _) (bytes-four _)) (bytes-four _)) (bytes-four _),
+      ),
+    ),
+  ),
+)
+
+-- the run is told, whatever follows
+pub run-told : (run : Run) (rest : List ℕ) → Valid run → runOf (blockOf 0 (heading run) ++ rest) ≡ run
+unfolding runOf blockOf sealed filled heading four fourAt
+run-told run rest v =
+    let file = blockOf 0 (heading run) ++ rest in
+    let w : fourAt file 8 ≡ run .window = omega arith in
+    let t : fourAt file 12 ≡ run .interval = omega arith in
+    let f : fourAt file 16 ≡ run .first = omega arith in
+    let l : fourAt file 20 ≡ run .last = omega arith in
+    λ i. record { window = w i; interval = t i; first = f i; last = l i }
+
+version-there : (run : Run) → getD (blockOf 0 (heading run)) 4 0 ≡ 1
+unfolding blockOf sealed filled heading four
+version-there run = refl
+
+spare-there : (run : Run) → zeros (take 3 (drop 5 (blockOf 0 (heading run)))) ≡ true
+unfolding blockOf sealed filled heading four zeros
+spare-there run = refl
+
+pub heading-passes : (run : Run) → Passes (headingTests (blockOf 0 (heading run)))
+unfolding headingTests
+heading-passes run =
+    both
+    (both (block-passes 0 (heading run) 20 (omega arith) (bytes-heading run) (le-of-eq (length-heading run))) (sound (agrees refl refl (version-there run))))
+    (sound (ap not (spare-there run)))
+
+-- the version and the spare bytes of a block that passes, and the numbers behind them
+module _ (file : List ℕ) (l : 512 ≤ length file) (b : Bytes file) (p : Passes (headingTests (blockAt file 0))) where
+  spare-told : take 4 (drop 4 file) ≡ 1 ∷ 0 ∷ 0 ∷ 0 ∷ []
+  unfolding headingTests blockAt
+  spare-told =
+      let version : getD file 4 0 ≡ 1 = sym (getD-take 512 file 4 0 (omega arith)) ∙ same _ _ (passes-then (passes-first p)) in
+      let three : length (take 3 (drop 5 (take 512 file))) ≡ 3 = simp (length-take, length-drop) (omega arith) in
+      let spare : take 3 (drop 5 file) ≡ 0 ∷ 0 ∷ 0 ∷ [] =
+      sym (take-drop-take 3 5 512 file (omega arith)) ∙ zeros-replicate _ (not-false _ (passes-when (passes-then p))) ∙ ap (λ n. replicate n 0) three in
+      ap (take 4) (drop-cons file 4 0 (omega arith)) ∙ rw (version, spare)
+
+  number-told : (k : ℕ) → k ≤ 16 → take 4 (drop k (drop 4 file)) ≡ four (fourAt file (4 + k))
+  number-told k h = ap (take 4) (drop-drop k 4 file) ∙ four-back file (4 + k) b (omega arith)
+
+  twenty : take 20 (drop 4 file) ≡ heading (runOf file)
+  unfolding heading runOf
+  twenty =
+      take-add 16 4 (drop 4 file)
+      ∙ ap (λ x. x ++ take 4 (drop 16 (drop 4 file))) (take-add 12 4 (drop 4 file))
+      ∙ ap (λ x. x ++ take 4 (drop 12 (drop 4 file)) ++ take 4 (drop 16 (drop 4 file))) (take-add 8 4 (drop 4 file))
+      ∙ ap (λ x. x ++ take 4 (drop 8 (drop 4 file)) ++ take 4 (drop 12 (drop 4 file)) ++ take 4 (drop 16 (drop 4 file))) (take-add 4 4 (drop 4 file))
+      ∙ rw (spare-told, number-told 4 (omega arith), number-told 8 (omega arith), number-told 12 (omega arith), number-told 16 (omega arith))
+
+  pub heading-is : blockAt file 0 ≡ blockOf 0 (heading (runOf file))
+  unfolding headingTests
+  heading-is =
+      block-is 0 20 (blockAt file 0) (length-blockAt file 0 l) (bytes-blockAt file 0 b) (passes-first (passes-first p))
+      ∙ ap (blockOf 0) (ap (take 20) (contents-at file 0) ∙ take-take 20 504 (drop 4 file) (omega arith) ∙ twenty)

@@ -1,0 +1,16 @@
+pub mod Lists
+pub mod Writing
+pub mod Joined
+pub mod Number
+pub mod Filling
+pub mod Block
+pub mod Differs
+pub mod Bytes
+pub mod Cells
+pub mod Judging
+pub mod Sealing
+pub mod Heading
+pub mod Promises
+pub mod Saving
+pub mod Accepting
+pub mod RoundTrips

@@ -1,0 +1,32 @@
+-- What saving and reading promise, each in one definition of the inputs, the reply and what is lent afterwards.
+use Prim.Native.Nat.{ℕ}
+use mathlib.Core.Path.{_≡_}
+use mathlib.Core.List.{List}
+use Rattle.scope.specs.declared.Run.{Run}
+use Rattle.scope.specs.Refusal.{complaint}
+use Rattle.scope.specs.Reply.{Said, refused, answered, reply, stored}
+use Rattle.saved.specs.declared.Saved.{Saved}
+use Rattle.saved.specs.declared.Saved.the-variants.{Done, Refused as Refused·saved}
+use Rattle.saved.specs.declared.Loaded.{Loaded}
+use Rattle.saved.specs.declared.Loaded.the-variants.{Of, Refused as Refused·loaded}
+use Rattle.saved.specs.File.{fileOf, runOf, mapOf, saveTests, readTests}
+
+-- What a reply to saving says: that it is done, or a refusal's number.
+abbrev pub saidOfSaving : Saved → Said (Unit {0})
+saidOfSaving Done = answered tt
+saidOfSaving (Refused·saved n) = refused n
+
+-- What a reply to reading says: the run, or a refusal's number.
+abbrev pub saidOfReading : Loaded → Said Run
+saidOfReading (Of run) = answered run
+saidOfReading (Refused·loaded n) = refused n
+
+-- Saving: a run and its map are stored in the file room, or it is refused and the room is as it was.
+pub record SavePromise (run : Run) (map file : List ℕ) (answer : Saved) (after : List ℕ) : Type 0 where
+  pub says : saidOfSaving answer ≡ reply (complaint (saveTests run map file)) tt
+  pub stores : after ≡ stored (complaint (saveTests run map file)) file (fileOf run map)
+
+-- "Reading answers with the run and fills a lent map", or it is refused and the map is as it was.
+pub record ReadPromise (file map : List ℕ) (answer : Loaded) (after : List ℕ) : Type 0 where
+  pub says : saidOfReading answer ≡ reply (complaint (readTests file map)) (runOf file)
+  pub stores : after ≡ stored (complaint (readTests file map)) map (mapOf file)

@@ -1,0 +1,321 @@
+// The saved map of document 01: a file of blocks of 512 bytes, each with its number before its contents and its check behind.
+// Every function is proved. `save` and `read` are the public operations; the others are inner steps of these and of the crates above.
+use scope::Run;
+use scope::Verdict;
+ghost use mathlib.Core.Path.{_≡_};
+ghost use mathlib.Core.List.{_++_};
+ghost use Prim.Native.Nat.{min, _+_, _-_, _*_, _/_, _≤_, _<_, _^_};
+ghost use lib.ListN.{length, take, drop, replicate};
+ghost use Rattle.scope.specs.Run.{Valid, cellsOf};
+ghost use Rattle.scope.specs.Refusal.{complaint};
+ghost use Rattle.scope.specs.Reply.{verdict, reply};
+ghost use Rattle.saved.specs.Block.{four, fourAt, checkOf, blockOf, zeros, blockTests};
+ghost use Rattle.saved.specs.File.{heading, cellBlocks, blocksFor, fileLength, fileOf, runOf, bytesIn, headingTests, mapTests, fileTests};
+ghost use Rattle.saved.specs.Promise.{saidOfReading, SavePromise, ReadPromise};
+
+// What saving a map came to.
+pub enum Saved {
+    // The file was written.
+    Done,
+    // Nothing was: 01's number of the reason.
+    Refused(u8),
+}
+
+// What reading a file came to.
+pub enum Loaded {
+    // The map was filled; it belongs to this run.
+    Of(Run),
+    // Nothing was: 01's number of the reason.
+    Refused(u8),
+}
+
+// A byte as a wider number: the same, and below 256.
+fn wide(byte: u8) -> u32
+    ensures { λ r. ⌜ (r ≡ byte) × (r < 256) ⌝ }
+{
+    byte as u32
+}
+
+// Inner step. The check of a block: 1 and the sum of (k+1)·byte k for k = 0..507. Each term is at most 508·255, so that 32 bits hold the sum.
+pub fn check(block: &[u8]) -> u32
+    requires { ⌜ 508 ≤ length (now block) ⌝ }
+    ensures { λ r. ⌜ r ≡ checkOf (now (block .entry)) ⌝ }
+{
+    let mut sum: u32 = 1;
+    let mut k: usize = 0;
+    while k < 508 {
+        sum += (k as u32 + 1) * wide(block[k]);
+        k += 1;
+    }
+    sum
+}
+
+// Inner step. The number that the four bytes from `at` on stand for, the lowest byte first: at most 255 of each place, so that it fits.
+pub fn four_at(bytes: &[u8], at: usize) -> u32
+    requires { ⌜ at + 4 ≤ length (now bytes) ⌝ }
+    ensures { λ r. ⌜ r ≡ fourAt (now (bytes .entry)) at ⌝ }
+{
+    let first = wide(bytes[at]);
+    let second = wide(bytes[at + 1]);
+    let third = wide(bytes[at + 2]);
+    let fourth = wide(bytes[at + 3]);
+    first + 256 * (second + 256 * (third + 256 * fourth))
+}
+
+// Inner step. Writes a number as four bytes, the lowest first.
+pub fn put_four(room: &mut [u8], number: u32)
+    requires { ⌜ length (now room) ≡ 4 ⌝ }
+    ensures { λ _. ⌜ now (room .exit) ≡ four number ⌝ }
+{
+    room[0] = (number % 256) as u8;
+    room[1] = (number / 256 % 256) as u8;
+    room[2] = (number / 256 / 256 % 256) as u8;
+    room[3] = (number / 256 / 256 / 256 % 256) as u8;
+}
+
+// Inner step. Copies all of `bytes` into a room of their length.
+pub fn copy(bytes: &[u8], room: &mut [u8])
+    requires { ⌜ length (now room) ≡ length (now bytes) ⌝ }
+    ensures { λ _. ⌜ now (room .exit) ≡ now (bytes .entry) ⌝ }
+{
+    let mut i = 0;
+    while i < bytes.len() {
+        room[i] = bytes[i];
+        i += 1;
+    }
+}
+
+// Inner step. Makes every byte of a room zero.
+pub fn clear(room: &mut [u8])
+    ensures { λ _. ⌜ now (room .exit) ≡ replicate (length (now (room .entry))) 0 ⌝ }
+{
+    let mut i = 0;
+    while i < room.len() {
+        room[i] = 0;
+        i += 1;
+    }
+}
+
+// Inner step. Whether every byte from `from` on is zero; of no bytes that is so.
+pub fn zeros_from(bytes: &[u8], from: usize) -> bool
+    ensures { λ r. ⌜ r ≡ zeros (drop from (now (bytes .entry))) ⌝ }
+{
+    let mut i = from;
+    while i < bytes.len() {
+        if bytes[i] != 0 {
+            return false;
+        }
+        i += 1;
+    }
+    true
+}
+
+// Inner step. Writes the block with this number that holds these bytes, filled up with zeros. The parts follow each other from the front;
+// the check comes last, over what then stands there, so that nothing the room held before counts.
+pub fn write_block(number: u32, bytes: &[u8], block: &mut [u8])
+    requires { ⌜ (length (now bytes) ≤ 504) × (length (now block) ≡ 512) ⌝ }
+    ensures { λ _. ⌜ now (block .exit) ≡ blockOf number (now (bytes .entry)) ⌝ }
+{
+    let end = 4 + bytes.len();
+    put_four(&mut block[0..4], number);
+    copy(bytes, &mut block[4..end]);
+    clear(&mut block[end..508]);
+    let sum = check(block);
+    put_four(&mut block[508..512], sum);
+}
+
+// Inner step. What 01's table says of a block that is to have this number and to hold `size` bytes: 14 for the number or the check,
+// then 15 for the filling behind those bytes. A full block has none.
+pub fn judge_block(number: u32, size: usize, block: &[u8]) -> Verdict
+    requires { ⌜ length (now block) ≡ 512 ⌝ }
+    ensures { λ r. ⌜ r ≡ verdict (complaint (blockTests number size (now (block .entry)))) ⌝ }
+{
+    if four_at(block, 0) != number {
+        return Verdict::Refused(14);
+    }
+    if four_at(block, 508) != check(block) {
+        return Verdict::Refused(14);
+    }
+    if !zeros_from(&block[4..508], size) {
+        return Verdict::Refused(15);
+    }
+    Verdict::Fine
+}
+
+// Inner step. The smaller of two numbers.
+fn least(a: usize, b: usize) -> usize
+    ensures { λ r. ⌜ r ≡ min a b ⌝ }
+{
+    if a < b { a } else { b }
+}
+
+// Inner step. How long the file of so many bytes of cells is: block 0, and a block for each 504 begun.
+pub fn file_length(size: u64) -> u64
+    requires { ⌜ size < 2 ^ 37 ⌝ }
+    ensures { λ r. ⌜ r ≡ fileLength size ⌝ }
+{
+    512 * (1 + (size + 503) / 504)
+}
+
+// Inner step. Writes block 0: the version, three spare bytes and the run's four numbers, as the twenty bytes that it holds.
+pub fn write_heading(run: Run, block: &mut [u8])
+    requires { ⌜ length (now block) ≡ 512 ⌝ }
+    ensures { λ _. ⌜ now (block .exit) ≡ blockOf 0 (heading run) ⌝ }
+{
+    let mut bytes = [0u8; 20];
+    bytes[0] = 1;
+    put_four(&mut bytes[4..8], run.window);
+    put_four(&mut bytes[8..12], run.interval);
+    put_four(&mut bytes[12..16], run.first);
+    put_four(&mut bytes[16..20], run.last);
+    write_block(0, &bytes, block);
+}
+
+// Inner step. Writes the blocks after block 0: 504 cells each, the last perhaps with fewer. Each turn writes one whole block.
+pub fn write_cells(map: &[u8], room: &mut [u8])
+    requires { ⌜ (length (now map) < 2 ^ 37) × (length (now room) ≡ 512 * blocksFor (length (now map))) ⌝ }
+    ensures { λ _. ⌜ now (room .exit) ≡ cellBlocks (now (map .entry)) (blocksFor (length (now (map .entry)))) ⌝ }
+{
+    let mut k: usize = 0;
+    while 504 * k < map.len() {
+        let from = 504 * k;
+        let end = least(from + 504, map.len());
+        let at = 512 * k;
+        let next = at + 512;
+        write_block((k + 1) as u32, &map[from..end], &mut room[at..next]);
+        k += 1;
+    }
+}
+
+// Saves a run's map in a file room of the exact length: done, or refused with the room as it was.
+// Every test comes before the first byte is written, and then every byte is.
+pub fn save(run: Run, map: &[u8], file: &mut [u8]) -> Saved
+    ensures { λ r. ⌜ SavePromise run (now (map .entry)) (now (file .entry)) r (now (file .exit)) ⌝ }
+{
+    if let Verdict::Refused(number) = scope::judge_run(run) {
+        return Saved::Refused(number);
+    }
+    let cells = scope::cells(run);
+    if map.len() as u64 != cells {
+        return Saved::Refused(9);
+    }
+    if file.len() as u64 != file_length(cells) {
+        return Saved::Refused(9);
+    }
+    let end = file.len();
+    write_heading(run, &mut file[0..512]);
+    write_cells(map, &mut file[512..end]);
+    Saved::Done
+}
+
+// Inner step. What 01's table says of block 0: as of every block, then its version and its spare bytes.
+pub fn judge_heading(block: &[u8]) -> Verdict
+    requires { ⌜ length (now block) ≡ 512 ⌝ }
+    ensures { λ r. ⌜ r ≡ verdict (complaint (headingTests (now (block .entry)))) ⌝ }
+{
+    if let Verdict::Refused(number) = judge_block(0, 20, block) {
+        return Verdict::Refused(number);
+    }
+    if block[4] != 1 {
+        return Verdict::Refused(15);
+    }
+    if !zeros_from(&block[5..8], 0) {
+        return Verdict::Refused(15);
+    }
+    Verdict::Fine
+}
+
+// Inner step. What 01's table says of the blocks after block 0, in order, if they are to hold `size` bytes of cells.
+pub fn judge_cells(size: usize, file: &[u8]) -> Verdict
+    requires { ⌜ (size < 2 ^ 37) × (length (now file) ≡ fileLength size) ⌝ }
+    ensures { λ r. ⌜ r ≡ verdict (complaint (mapTests size (now (file .entry)) (blocksFor size))) ⌝ }
+{
+    let mut k: usize = 0;
+    while 504 * k < size {
+        let at = 512 * (k + 1);
+        let next = at + 512;
+        if let Verdict::Refused(number) = judge_block(
+            (k + 1) as u32,
+            size - 504 * k,
+            &file[at..next],
+        ) {
+            return Verdict::Refused(number);
+        }
+        k += 1;
+    }
+    Verdict::Fine
+}
+
+// Inner step. The run that block 0 tells.
+pub fn run_of(file: &[u8]) -> Run
+    requires { ⌜ 24 ≤ length (now file) ⌝ }
+    ensures { λ r. ⌜ r ≡ runOf (now (file .entry)) ⌝ }
+{
+    Run {
+        window: four_at(file, 8),
+        interval: four_at(file, 12),
+        first: four_at(file, 16),
+        last: four_at(file, 20),
+    }
+}
+
+// Inner step. What 01's table says of a file: its run, or the number of the first test that it fails. Only a count of blocks that fits
+// the run makes sure that each block is there to be judged.
+pub fn judge_file(file: &[u8]) -> Loaded
+    ensures { λ r. ⌜ saidOfReading r ≡ reply (complaint (fileTests (now (file .entry)))) (runOf (now (file .entry))) ⌝ }
+{
+    if file.len() % 512 != 0 {
+        return Loaded::Refused(13);
+    }
+    if file.len() == 0 {
+        return Loaded::Refused(13);
+    }
+    if let Verdict::Refused(number) = judge_heading(&file[0..512]) {
+        return Loaded::Refused(number);
+    }
+    let run = run_of(file);
+    if let Verdict::Refused(number) = scope::judge_run(run) {
+        return Loaded::Refused(number);
+    }
+    let cells = scope::cells(run);
+    if file_length(cells) != file.len() as u64 {
+        return Loaded::Refused(13);
+    }
+    if let Verdict::Refused(number) = judge_cells(cells as usize, file) {
+        return Loaded::Refused(number);
+    }
+    Loaded::Of(run)
+}
+
+// Inner step. Fills a map with the cells that the blocks after block 0 hold: 504 a block, of the last as many as are left.
+pub fn load(file: &[u8], map: &mut [u8])
+    requires { ⌜ (length (now map) < 2 ^ 37) × (length (now file) ≡ fileLength (length (now map))) ⌝ }
+    ensures { λ _. ⌜ now (map .exit) ≡ take (length (now (map .entry))) (bytesIn (now (file .entry)) (blocksFor (length (now (map .entry))))) ⌝ }
+{
+    let mut k: usize = 0;
+    while 504 * k < map.len() {
+        let from = 504 * k;
+        let end = least(from + 504, map.len());
+        let at = 512 * (k + 1) + 4;
+        let next = at + (end - from);
+        copy(&file[at..next], &mut map[from..end]);
+        k += 1;
+    }
+}
+
+// Reads a file: its run, with a map of the exact length filled, or refused with the map as it was.
+// Every test, of the last block too, comes before the first cell is filled.
+pub fn read(file: &[u8], map: &mut [u8]) -> Loaded
+    ensures { λ r. ⌜ ReadPromise (now (file .entry)) (now (map .entry)) r (now (map .exit)) ⌝ }
+{
+    match judge_file(file) {
+        Loaded::Refused(number) => Loaded::Refused(number),
+        Loaded::Of(run) => {
+            if map.len() as u64 != scope::cells(run) {
+                return Loaded::Refused(9);
+            }
+            load(file, map);
+            Loaded::Of(run)
+        }
+    }
+}

@@ -1,0 +1,26 @@
+-- Document 01: "a list of periods, a list of weights", of list entries.
+use Prim.Native.Nat.{ℕ, _≤_}
+use mathlib.Core.List.{List, [], _∷_}
+use Rattle.scope.specs.Run.{ValidSource}
+use Rattle.scope.specs.Entry.{Entry}
+
+-- The list of periods of some entries.
+unfoldable pub periodsOf : List Entry → List ℕ
+periodsOf [] = []
+periodsOf (entry ∷ entries) = entry .source .period ∷ periodsOf entries
+
+-- The list of weights of some entries.
+unfoldable pub weightsOf : List Entry → List ℕ
+weightsOf [] = []
+weightsOf (entry ∷ entries) = entry .weight ∷ weightsOf entries
+
+-- The table of ranges, of one entry: "weight: 1 to 255", of any ceiling.
+pub record ValidEntry (ceiling : ℕ) (e : Entry) : Type 0 where
+  pub source : ValidSource (e .source)
+  pub some : 1 ≤ e .weight
+  pub fits : e .weight ≤ ceiling
+
+-- Every entry is within the limits.
+abbrev pub AllValid : ℕ → List Entry → Type 0
+AllValid ceiling [] = Unit {0}
+AllValid ceiling (entry ∷ entries) = ValidEntry ceiling entry × AllValid ceiling entries

@@ -1,0 +1,98 @@
+-- What a text says, from the lines that were read in it, and which reply that makes. Assumes nothing.
+use Prim.Native.Nat.{ℕ, zero, suc, _+_, _-_, _≤_, _<_}
+use native.Mathlib.Omega.{arith}
+use mathlib.Core.Path.{_≡_, refl, sym, ap, _∙_, subst}
+use mathlib.Core.List.{List, [], _∷_, _++_}
+use mathlib.Core.Option.{Option, some, none}
+use lib.ListN.{length, take, drop, replicate, length-replicate, replicate-append-replicate}
+use lib.Seq.{take-at, drop-at}
+use Rattle.scope.specs.declared.Run.{Run}
+use Rattle.scope.specs.Refusal.{number}
+use Rattle.scope.specs.Reply.{reply, stored}
+use Rattle.scope.proofs.Judged.{Fails, Passes, refuse-reply, grant-reply, refuse-stored, grant-stored}
+use Rattle.scope.specs.Entry.{Entry, entriesOf}
+use Rattle.sources.specs.Lists.{periodsOf, weightsOf}
+use Rattle.sources.proofs.Entries.{entries-of, periods-length, weights-length}
+use Rattle.text.specs.Form.{runWord, runNumbers, srcLines, textOf, Content, Says}
+use Rattle.text.specs.Promise.{Reads, textTests, handed, padded, refusal, TextPromise}
+use Rattle.text.specs.Inner.{Line, NoLine, Lines, Listed, NoLines}
+use Rattle.text.specs.declared.Input.{Input}
+use Rattle.text.specs.declared.Answer.the-variants.{Read}
+use Rattle.text.proofs.Lines.{line-split}
+
+-- ---- what a text says
+
+pub too-long : {text : List ℕ} → 4096 < length text → Reads text none
+too-long h content s = omega (arith, s .short)
+
+pub no-run : {text : List ℕ} → NoLine text 0 runWord 4 → Reads text none
+unfolding textOf
+no-run n content s = n .none (runNumbers (content .run)) (srcLines (content .entries)) refl (s .runSmall) (s .spelled)
+
+module _ {text : List ℕ} {run : Run} {at : ℕ} (l : Line text 0 runWord (runNumbers run) at) where
+  pub no-sources : NoLines text at → Reads text none
+  unfolding textOf
+  no-sources n content s =
+      n .none (content .entries)
+      (record { small = s .allSmall; is = line-split runWord (runNumbers run) (runNumbers (content .run)) (drop at text) (srcLines (content .entries)) (sym (l .stands .is) ∙ s .spelled) .1 })
+
+  pub has-form : {entries : List Entry} → length text ≤ 4096 → Lines text at entries → Says text (record { run = run; entries = entries })
+  unfolding textOf
+  has-form h m =
+      record { spelled = l .stands .is ∙ rw (m .is); runSmall = l .small; allSmall = m .small; short = h }
+
+-- ---- the reply that it makes
+
+pub refuses-form : {text : List ℕ} {input : Input} → Reads text none → input ≡ refusal 11 → TextPromise text input
+unfolding padded periodsOf weightsOf number
+refuses-form n e =
+    record { content = none; reads = n; replies = rw e; counts = rw e; periods = rw e; weights = rw e }
+
+pub refuses : {text : List ℕ} {content : Content} {n : ℕ} {input : Input} → Says text content → Fails (textTests content) n
+    → input ≡ refusal n → TextPromise text input
+unfolding padded periodsOf weightsOf
+refuses {content = content} s f e =
+    let empty : handed (some content) ≡ [] = sym (refuse-stored [] (content .entries) f) in
+    record {
+      content = some content;
+      reads = s;
+      replies = rw e (refuse-reply (content .run) f);
+      counts = rw (e, empty);
+      periods = rw (e, empty);
+      weights = rw (e, empty);
+    }
+
+drop-zeros : (k n : ℕ) → drop {A = ℕ} k (replicate n 0) ≡ replicate (n - k) 0
+drop-zeros zero n = let e : n ≡ n - 0 = omega arith in ap (λ m. replicate m 0) e
+drop-zeros (suc k) zero = let e : 0 ≡ 0 - suc k = omega arith in ap (λ m. replicate m 0) e
+drop-zeros (suc k) (suc n) = let e : n - k ≡ suc n - suc k = omega arith in drop-zeros k n ∙ ap (λ m. replicate m 0) e
+
+-- the lists of 64 zeros, after the numbers were stored at their beginning
+padded-is : (numbers : List ℕ) (count : ℕ) → length numbers ≡ count → count ≤ 64 → numbers ++ drop count (replicate 64 0) ≡ padded numbers
+unfolding padded
+padded-is numbers count l h = ap (λ rest. numbers ++ rest) (drop-zeros count 64 ∙ ap (λ k. replicate (64 - k) 0) (sym l))
+
+pub accepts : {text : List ℕ} {run : Run} {at count : ℕ} {periods weights : List ℕ} (g : Listed text at count (replicate 64 0) (replicate 64 0) periods weights)
+    → count ≤ 64
+    → Says text (record { run = run; entries = g .entries }) → Passes (textTests (record { run = run; entries = g .entries }))
+    → TextPromise text (record { answer = Read run; count = count; periods = periods; weights = weights })
+accepts {run = run} {count = count} g h s p =
+    let all = grant-stored [] (g .entries) p in
+    record {
+      content = some (record { run = run; entries = g .entries });
+      reads = s;
+      replies = grant-reply run p;
+      counts = sym (g .counted) ∙ ap length all;
+      periods = g .storesPeriods h ∙ padded-is (periodsOf (g .entries)) count (periods-length (g .entries) ∙ g .counted) h ∙ ap (λ es. padded (periodsOf es)) all;
+      weights = g .storesWeights h ∙ padded-is (weightsOf (g .entries)) count (weights-length (g .entries) ∙ g .counted) h ∙ ap (λ es. padded (weightsOf es)) all;
+    }
+
+-- the parts of the lists that are judged are the entries
+pub entries-stored : {text : List ℕ} {at count : ℕ} {periods weights : List ℕ} (g : Listed text at count (replicate 64 0) (replicate 64 0) periods weights)
+    → count ≤ 64 → entriesOf (take count periods) (take count weights) ≡ g .entries
+entries-stored {count = count} {periods = periods} {weights = weights} g h =
+    let p : take count periods ≡ periodsOf (g .entries) =
+    ap (take count) (g .storesPeriods h) ∙ take-at (periodsOf (g .entries)) _ count (periods-length (g .entries) ∙ g .counted) in
+    let w : take count weights ≡ weightsOf (g .entries) =
+    ap (take count) (g .storesWeights h) ∙ take-at (weightsOf (g .entries)) _ count (weights-length (g .entries) ∙ g .counted) in
+    rw (p, w) (entries-of (g .entries))

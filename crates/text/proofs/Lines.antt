@@ -1,0 +1,244 @@
+-- The laws of lines at a place of a text: what stands there joins what stands after it, and it leaves a text only one way to go on.
+-- A line's first digits, its word and its newline are read one after the other; each law adds one piece in front. Assumes nothing.
+use Prim.Native.Nat.{ℕ, zero, suc, _+_, _-_, _≤_, _<_, _^_}
+use native.Mathlib.Nat.{add-zero}
+use native.Mathlib.Omega.{arith}
+use mathlib.Core.Path.{_≡_, refl, sym, ap, _∙_, subst}
+use mathlib.Core.Bool.{true, false}
+use mathlib.Core.List.{List, [], _∷_, _++_, append-assoc, append-nil}
+use native.Mathlib.Numerals.{add-one}
+use lib.ListN.{length, take, drop, getD, set, length-set, length-append, length-drop, drop-of-length-le}
+use lib.Seq.{drop-append-seam, take-suc, drop-cons, split-at, take-all, take-suc-set}
+use Rattle.decimal.specs.Digits.{digits, beginsWithDigit}
+use Rattle.decimal.specs.Promises.{Reading}
+use Rattle.decimal.specs.declared.Number.{Number}
+use Rattle.decimal.specs.declared.Number.the-variants.{Value, Bad}
+use Rattle.decimal.proofs.Laws.{digits-split}
+use Rattle.decimal.proofs.Readings.{stands}
+use Rattle.text.specs.Form.{fields, line, Small}
+use Rattle.text.specs.Inner.{Spelled, NoWord, Field, NoField, FieldAt, Line, NoLine, LineAt, WordAt}
+use Rattle.text.specs.declared.Found.{Found}
+use Rattle.text.specs.declared.Found.the-variants.{Next, Nothing}
+
+-- what follows a common front
+pub behind : (front : List ℕ) {a b : List ℕ} → front ++ a ≡ front ++ b → a ≡ b
+behind front {a} {b} e = sym (drop-append-seam front a) ∙ ap (drop (length front)) e ∙ drop-append-seam front b
+
+module _ {text : List ℕ} {at : ℕ} where
+  pub spelled-none : Spelled text at [] at
+  spelled-none = record { is = refl; place = sym (add-zero at) }
+
+  module _ {bytes : List ℕ} {next : ℕ} (s : Spelled text at bytes next) where
+    pub spelled-append : {more : List ℕ} {end : ℕ} → Spelled text next more end → Spelled text at (bytes ++ more) end
+    spelled-append {more} t =
+        record { is = s .is ∙ rw (t .is) (sym (append-assoc bytes more _)); place = t .place ∙ omega (arith, s .place, length-append bytes more) }
+
+    -- the text goes on after the bytes as it has to
+    pub spelled-forced : {rest : List ℕ} → drop at text ≡ bytes ++ rest → drop next text ≡ rest
+    spelled-forced e = behind bytes (sym (s .is) ∙ e)
+
+    -- they end within the text
+    pub spelled-within : 0 < length bytes → (at < next) × (next ≤ length text)
+    spelled-within h =
+        let l = simp (length-append, length-drop) at (ap length (s .is)) in
+        omega (arith, s .place)
+
+-- ---- a word, byte after byte
+
+-- the first k bytes of the word stand at `at`, up to `next`
+pub record Begun (text : List ℕ) (at : ℕ) (word : List ℕ) (k next : ℕ) : Type 0 where
+  pub within : k ≤ length word
+  pub stands : Spelled text at (take k word) next
+
+module _ {text : List ℕ} {at : ℕ} {word : List ℕ} {k next : ℕ} (b : Begun text at word k next) where
+  -- the next byte is the word's
+  pub byte-more : k < length word → next < length text → getD text next 0 ≡ getD word k 0 → Begun text at word (k + 1) (next + 1)
+  byte-more h t e =
+      record {
+        within = omega arith;
+        stands =
+            rw (add-one k, take-suc word k 0 h)
+            (spelled-append (b .stands) (record { is = rw (add-one next, ← e) (drop-cons text next 0 t); place = refl }));
+      }
+
+  -- what the text has to have there
+  front : (rest : List ℕ) → k < length word → drop at text ≡ word ++ rest → drop next text ≡ getD word k 0 ∷ (drop (suc k) word ++ rest)
+  front rest h e = spelled-forced (b .stands) (e ∙ ap (λ w. w ++ rest) (split-at word k 0 h) ∙ append-assoc (take k word) _ rest)
+
+  -- the text ends there
+  pub ends-there : k < length word → length text ≤ next → NoWord text at word
+  ends-there h t = record { none = λ rest e. let l = ap length (sym (drop-of-length-le text t) ∙ front rest h e) in omega arith }
+
+  -- the next byte is another
+  pub byte-other : k < length word → next < length text → (getD text next 0 ≡ getD word k 0 → ⊥) → NoWord text at word
+  byte-other h t other = record { none = λ rest e. other (ap (λ l. getD l 0 0) (sym (drop-cons text next 0 t) ∙ front rest h e)) }
+
+  pub word-whole : length word ≤ k → Spelled text at word next
+  word-whole h = rw (take-all k word h) at (b .stands)
+
+-- ---- a space and a number
+
+-- what reading a number answers after a space
+pub field-at : {text : List ℕ} {at start : ℕ} → Spelled text at (32 ∷ []) start → (n : Number) → Reading text start n → FieldAt text at n
+field-at s (Value v next) r =
+    record { small = r .small; stands = spelled-append s (record { is = r .spelled; place = r .place }); ended = r .ended }
+field-at {text} {at} {start} s Bad r =
+    record { none = λ v rest small ended e. r v _ (stands text start v rest small (spelled-forced s e) ended) }
+
+pub no-space : {text : List ℕ} {at : ℕ} → NoWord text at (32 ∷ []) → NoField text at
+no-space n = record { none = λ v rest small ended e. n .none (digits v ++ rest) e }
+
+-- ---- the numbers of a line
+
+-- the numbers and the newline stand at `at`
+pub record Fields (text : List ℕ) (at : ℕ) (numbers : List ℕ) (next : ℕ) : Type 0 where
+  pub small : Small numbers
+  pub stands : Spelled text at (fields numbers) next
+
+-- no numbers, so many, do
+pub record NoFields (text : List ℕ) (at count : ℕ) : Type 0 where
+  pub none : (numbers rest : List ℕ) → length numbers ≡ count → Small numbers → drop at text ≡ fields numbers ++ rest → ⊥
+
+-- what follows a number begins with no digit
+pub fields-begin : (numbers rest : List ℕ) → beginsWithDigit (fields numbers ++ rest) ≡ false
+unfolding fields
+fields-begin [] rest = refl
+fields-begin (n ∷ numbers) rest = refl
+
+fields-cons : (v : ℕ) (numbers rest : List ℕ) → fields (v ∷ numbers) ++ rest ≡ (32 ∷ digits v) ++ (fields numbers ++ rest)
+unfolding fields
+fields-cons v numbers rest = append-assoc (32 ∷ digits v) (fields numbers) rest
+
+-- numbers can be read in one way only, whatever follows
+pub fields-split : (ms ns r s : List ℕ) → fields ms ++ r ≡ fields ns ++ s → (ms ≡ ns) × (r ≡ s)
+unfolding fields
+fields-split [] [] r s e = (refl, behind (10 ∷ []) e)
+fields-split [] (n ∷ ns) r s e = let z : _≡_ {A = ℕ} 10 32 = ap (λ l. getD l 0 0) e in absurd (omega arith)
+fields-split (m ∷ ms) [] r s e = let z : _≡_ {A = ℕ} 32 10 = ap (λ l. getD l 0 0) e in absurd (omega arith)
+fields-split (m ∷ ms) (n ∷ ns) r s e =
+    let k =
+    digits-split m n (fields ms ++ r) (fields ns ++ s) (fields-begin ms r) (fields-begin ns s)
+    (behind (32 ∷ []) (sym (fields-cons m ms r) ∙ e ∙ fields-cons n ns s)) in
+    let j = fields-split ms ns r s (k .1) in
+    (ap (λ h. h ∷ ms) (k .0) ∙ ap (λ t. n ∷ t) (j .0), j .1)
+
+pub line-split : (word ms ns r s : List ℕ) → line word ms ++ r ≡ line word ns ++ s → (ms ≡ ns) × (r ≡ s)
+unfolding line
+line-split word ms ns r s e =
+    fields-split ms ns r s (behind word (sym (append-assoc word (fields ms) r) ∙ e ∙ append-assoc word (fields ns) s))
+
+module _ {text : List ℕ} {at v next : ℕ} (f : Field text at v next) where
+  -- a number in front of numbers
+  pub field-joins : {numbers : List ℕ} {end : ℕ} → Fields text next numbers end → Fields text at (v ∷ numbers) end
+  unfolding fields
+  field-joins g = record { small = (f .small, g .small); stands = spelled-append (f .stands) (g .stands) }
+
+  -- the number that stands there is the only one, and the text goes on as it has to
+  pub field-forced : (w : ℕ) (numbers rest : List ℕ) → drop at text ≡ fields (w ∷ numbers) ++ rest
+      → (v ≡ w) × (drop next text ≡ fields numbers ++ rest)
+  field-forced w numbers rest e =
+      digits-split v w (drop next text) (fields numbers ++ rest) (f .ended) (fields-begin numbers rest)
+      (behind (32 ∷ []) (sym (f .stands .is) ∙ e ∙ fields-cons w numbers rest))
+
+  pub field-refutes : {count : ℕ} → NoFields text next count → NoFields text at (suc count)
+  field-refutes {count} n = record { none = go }
+    where
+      go : (numbers rest : List ℕ) → length numbers ≡ suc count → Small numbers → drop at text ≡ fields numbers ++ rest → ⊥
+      go [] rest l small e = omega arith
+      go (w ∷ numbers) rest l small e = n .none numbers rest (omega arith) (small .1) (field-forced w numbers rest e .1)
+
+-- where no number stands, no numbers do
+pub no-field : {text : List ℕ} {at : ℕ} → NoField text at → (count : ℕ) → NoFields text at (suc count)
+no-field {text} {at} n count = record { none = go }
+  where
+    go : (numbers rest : List ℕ) → length numbers ≡ suc count → Small numbers → drop at text ≡ fields numbers ++ rest → ⊥
+    go [] rest l small e = omega arith
+    go (w ∷ numbers) rest l small e =
+        n .none w (fields numbers ++ rest) (small .0) (fields-begin numbers rest) (e ∙ fields-cons w numbers rest)
+
+-- the newline alone
+pub newline : {text : List ℕ} {at next : ℕ} → Spelled text at (10 ∷ []) next → Fields text at [] next
+unfolding fields
+newline s = record { small = tt; stands = s }
+
+pub no-newline : {text : List ℕ} {at : ℕ} → NoWord text at (10 ∷ []) → NoFields text at 0
+unfolding fields
+no-newline {text} {at} n = record { none = go }
+  where
+    go : (numbers rest : List ℕ) → length numbers ≡ 0 → Small numbers → drop at text ≡ fields numbers ++ rest → ⊥
+    go [] rest l small e = n .none rest e
+    go (w ∷ numbers) rest l small e = omega arith
+
+-- ---- the word in front of them
+
+module _ {text : List ℕ} {at : ℕ} {word : List ℕ} {next : ℕ} (s : Spelled text at word next) where
+  pub word-joins : {numbers : List ℕ} {end : ℕ} → Fields text next numbers end → Line text at word numbers end
+  unfolding line
+  word-joins g = record { small = g .small; stands = spelled-append s (g .stands) }
+
+  pub word-refutes : {count : ℕ} → NoFields text next count → NoLine text at word count
+  unfolding line
+  word-refutes n =
+      record { none = λ numbers rest l small e. n .none numbers rest l small (spelled-forced s (e ∙ append-assoc word (fields numbers) rest)) }
+
+-- where the word does not stand, no line does
+pub no-word : {text : List ℕ} {at : ℕ} {word : List ℕ} → NoWord text at word → (count : ℕ) → NoLine text at word count
+unfolding line
+no-word {word = word} n count =
+    record { none = λ numbers rest l small e. n .none (fields numbers ++ rest) (e ∙ append-assoc word (fields numbers) rest) }
+
+-- ---- a line, number after number
+
+-- the word and k numbers, which the room has, are passed up to `next`: numbers that stand there make a line, and where none stand there is none
+pub record Passing (text : List ℕ) (at : ℕ) (word : List ℕ) (count : ℕ) (room : List ℕ) (k next : ℕ) : Type 0 where
+  pub long : length room ≡ count
+  pub within : k ≤ count
+  pub joins : {numbers : List ℕ} {end : ℕ} → Fields text next numbers end → Line text at word (take k room ++ numbers) end
+  pub refutes : NoFields text next (count - k) → NoLine text at word count
+
+pub passing-none : {text : List ℕ} {at : ℕ} {word : List ℕ} {next : ℕ} → Spelled text at word next → (room : List ℕ) → Passing text at word (length room) room 0 next
+passing-none s room =
+    let all : length room - 0 ≡ length room = omega arith in
+    record { long = refl; within = omega arith; joins = word-joins s; refutes = λ n. word-refutes s (rw all at n) }
+
+module _ {text : List ℕ} {at : ℕ} {word : List ℕ} {count : ℕ} {room : List ℕ} {k next : ℕ} (p : Passing text at word count room k next) where
+  pub passing-more : {v end : ℕ} → k < length room → Field text next v end → Passing text at word count (set room k v) (k + 1) end
+  passing-more {v} {end} h f =
+      let less : count - k ≡ suc (count - (k + 1)) = omega (arith, p .long) in
+      record {
+        long = simp length-set (p .long);
+        within = omega (arith, p .long);
+        joins = λ g. rw (add-one k, take-suc-set room k v h, append-assoc) (p .joins (field-joins f g));
+        refutes = λ n. p .refutes (rw less (field-refutes f n));
+      }
+
+  pub passing-bad : k < length room → NoField text next → NoLine text at word count
+  passing-bad h n =
+      let less : count - k ≡ suc (count - (k + 1)) = omega (arith, p .long) in
+      p .refutes (rw less (no-field n (count - (k + 1))))
+
+  pub passing-ends : (before : List ℕ) → length before ≡ count → length room ≤ k → (f : Found) → WordAt text next (10 ∷ []) f → LineAt text at word before room f
+  passing-ends before l h (Next end) w = rw (append-nil, take-all k room h) at (p .joins (newline w))
+  passing-ends before l h Nothing w =
+      let none-left : count - k ≡ 0 = omega (arith, p .long) in
+      rw l (p .refutes (rw none-left (no-newline w)))
+
+-- ---- the numbers in a room
+
+two : (l : List ℕ) → length l ≡ 2 → l ≡ getD l 0 0 ∷ getD l 1 0 ∷ []
+two (a ∷ b ∷ []) h = refl
+two [] h = absurd (omega arith)
+two (a ∷ []) h = absurd (omega arith)
+two (a ∷ b ∷ c ∷ l) h = absurd (omega arith)
+
+four : (l : List ℕ) → length l ≡ 4 → l ≡ getD l 0 0 ∷ getD l 1 0 ∷ getD l 2 0 ∷ getD l 3 0 ∷ []
+four (a ∷ b ∷ l) h = ap (λ k. a ∷ b ∷ k) (two l (omega arith))
+four [] h = absurd (omega arith)
+four (a ∷ []) h = absurd (omega arith)
+
+module _ {text : List ℕ} {at : ℕ} {word room : List ℕ} {next : ℕ} (l : Line text at word room next) where
+  pub line-two : length room ≡ 2 → Line text at word (getD room 0 0 ∷ getD room 1 0 ∷ []) next
+  line-two h = subst (λ ns. Line text at word ns next) (two room h) l
+
+  pub line-four : length room ≡ 4 → Line text at word (getD room 0 0 ∷ getD room 1 0 ∷ getD room 2 0 ∷ getD room 3 0 ∷ []) next
+  line-four h = subst (λ ns. Line text at word ns next) (four room h) l

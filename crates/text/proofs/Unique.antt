@@ -1,0 +1,176 @@
+-- A text says one thing at most, and no second reply fits; when it is refused 11, and when it is accepted. Assumes nothing.
+use Prim.Native.Nat.{ℕ, suc}
+use native.Mathlib.Omega.{arith}
+use mathlib.Core.Path.{_≡_, refl, sym, ap, _∙_, subst}
+use mathlib.Core.Logic.{_↔_}
+use mathlib.Core.Bool.{Bool, true, false}
+use mathlib.Core.List.{List, [], _∷_, _++_}
+use mathlib.Core.Option.{Option, some, none}
+use lib.ListN.{length, getD, take}
+use lib.Seq.{take-at}
+use Rattle.scope.specs.declared.Run.{Run}
+use Rattle.scope.specs.Refusal.{Reason, Complaint, Tests, _when_, _andThen_, ofSource, nothing, orElse, placed, complaint, number, windowTests, lineTests, runTests, periodTests, weightTests}
+use Rattle.scope.specs.Reply.{Said, refused, answered, reply, stored}
+use Rattle.scope.proofs.Judged.{Passes, grant-reply, grant-stored}
+use Rattle.scope.specs.Entry.{Entry, entriesOf, entryTests, listTests}
+use Rattle.sources.specs.Lists.{periodsOf, weightsOf}
+use Rattle.sources.proofs.Entries.{entry, entries-of, periods-length, weights-length}
+use Rattle.text.specs.Form.{line, fields, runWord, srcWord, runNumbers, srcNumbers, srcLines, textOf, Content, Says}
+use Rattle.text.specs.Promise.{Reads, textTests, replyTo, handed, padded, says, TextPromise}
+use Rattle.text.specs.declared.Answer.{Answer}
+use Rattle.text.specs.declared.Answer.the-variants.{Read, Refused}
+use Rattle.text.specs.declared.Input.{Input}
+use Rattle.text.proofs.Lines.{line-split}
+
+-- ---- the rendering is injective
+
+-- numbers that are a run's, or an entry's, are so of one only
+run-same : {a b : Run} → runNumbers a ≡ runNumbers b → a ≡ b
+run-same e = ap (λ l. record { window = getD l 0 0; interval = getD l 1 0; first = getD l 2 0; last = getD l 3 0 }) e
+
+entry-same : {a b : Entry} → srcNumbers a ≡ srcNumbers b → a ≡ b
+entry-same e = ap (λ l. entry (getD l 0 0) (getD l 1 0)) e
+
+pub lines-injective : (a b : List Entry) → srcLines a ≡ srcLines b → a ≡ b
+unfolding srcLines line
+lines-injective [] [] e = refl
+lines-injective [] (g ∷ b) e = absurd (let z = ap length e in omega arith)
+lines-injective (f ∷ a) [] e = absurd (let z = ap length e in omega arith)
+lines-injective (f ∷ a) (g ∷ b) e =
+    let k = line-split srcWord (srcNumbers f) (srcNumbers g) (srcLines a) (srcLines b) e in
+    ap (λ h. h ∷ a) (entry-same (k .0)) ∙ ap (λ t. g ∷ t) (lines-injective a b (k .1))
+
+pub text-injective : (a b : Content) → textOf a ≡ textOf b → a ≡ b
+unfolding textOf
+text-injective a b e =
+    let k = line-split runWord (runNumbers (a .run)) (runNumbers (b .run)) (srcLines (a .entries)) (srcLines (b .entries)) e in
+    ap (λ r. record { run = r; entries = a .entries }) (run-same (k .0))
+    ∙ ap (λ es. record { run = b .run; entries = es }) (lines-injective (a .entries) (b .entries) (k .1))
+
+-- ---- so is the reading of a text
+
+pub says-unique : {text : List ℕ} {a b : Content} → Says text a → Says text b → a ≡ b
+says-unique {a = a} {b = b} s t = text-injective a b (sym (s .spelled) ∙ t .spelled)
+
+pub reads-unique : (text : List ℕ) (a b : Option Content) → Reads text a → Reads text b → a ≡ b
+reads-unique text none none r s = refl
+reads-unique text none (some b) r s = absurd (r b s)
+reads-unique text (some a) none r s = absurd (s a r)
+reads-unique text (some a) (some b) r s = ap some (says-unique r s)
+
+answer-same : (a b : Answer) → says a ≡ says b → a ≡ b
+answer-same (Read r) (Read s) e = cc
+answer-same (Read r) (Refused n) e = cc
+answer-same (Refused m) (Read s) e = cc
+answer-same (Refused m) (Refused n) e = cc
+
+-- no second reply fits
+pub text-unique : (text : List ℕ) (i j : Input) → TextPromise text i → TextPromise text j → i ≡ j
+text-unique text i j p q =
+    let e = reads-unique text (p .content) (q .content) (p .reads) (q .reads) in
+    let answers : i .answer ≡ j .answer = answer-same (i .answer) (j .answer) (p .replies ∙ rw e (sym (q .replies))) in
+    let counts : i .count ≡ j .count = p .counts ∙ rw e (sym (q .counts)) in
+    let periods : i .periods ≡ j .periods = p .periods ∙ rw e (sym (q .periods)) in
+    let weights : i .weights ≡ j .weights = p .weights ∙ rw e (sym (q .weights)) in
+    λ k. record { answer = answers k; count = counts k; periods = periods k; weights = weights k }
+
+-- ---- 11 exactly when the text has not the form
+
+-- the complaint, if there is one, has another number than n
+abbrev Other : ℕ → Option Complaint → Type 0
+Other n none = Unit {0}
+Other n (some c) = number (c .reason) ≡ n → ⊥
+
+-- none of the tests has the number n
+abbrev Apart : ℕ → Tests → Type 0
+Apart n (reason when wrong) = number reason ≡ n → ⊥
+Apart n (first andThen rest) = Apart n first × Apart n rest
+Apart n (ofSource k tests) = Apart n tests
+Apart n nothing = Unit {0}
+
+apart-other : (n : ℕ) (tests : Tests) → Apart n tests → Other n (complaint tests)
+unfolding complaint
+apart-other n (reason when true) a = a
+apart-other n (reason when false) a = tt
+apart-other n (first andThen rest) a = go (complaint first) (complaint rest) (apart-other n first (a .0)) (apart-other n rest (a .1))
+  where
+    go : (x y : Option Complaint) → Other n x → Other n y → Other n (orElse x y)
+    go none y o p = p
+    go (some c) y o p = o
+apart-other n (ofSource k tests) a = go (complaint tests) (apart-other n tests a)
+  where
+    go : (x : Option Complaint) → Other n x → Other n (placed k x)
+    go none o = o
+    go (some c) o = o
+apart-other n nothing a = tt
+
+-- no test of what a text says has the number 11
+tests-apart : (content : Content) → Apart 11 (textTests content)
+unfolding textTests runTests windowTests lineTests periodTests weightTests entryTests listTests number
+tests-apart content =
+    let window : _≡_ {A = ℕ} 1 11 → ⊥ = λ e. omega arith in
+    let lines : _≡_ {A = ℕ} 2 11 → ⊥ = λ e. omega arith in
+    let interval : _≡_ {A = ℕ} 3 11 → ⊥ = λ e. omega arith in
+    let many : _≡_ {A = ℕ} 12 11 → ⊥ = λ e. omega arith in
+    ((((((((window, window), window), ((lines, lines), lines)), interval), many), many), list 1 (content .entries)))
+  where
+    list : (k : ℕ) (entries : List Entry) → Apart 11 (listTests 255 k entries)
+    list k [] = tt
+    list k (e ∷ entries) =
+        let period : _≡_ {A = ℕ} 4 11 → ⊥ = λ z. omega arith in
+        let weight : _≡_ {A = ℕ} 7 11 → ⊥ = λ z. omega arith in
+        (((period, period), (weight, weight)), list (suc k) entries)
+
+pub refused-form : (text : List ℕ) (input : Input) → TextPromise text input → (input .answer ≡ Refused 11) ↔ Reads text none
+unfolding number
+refused-form text input p = (λ e. go (p .content) (p .reads) (sym (ap says e) ∙ p .replies), back)
+  where
+    other : (run : Run) (x : Option Complaint) → Other 11 x → refused 11 ≡ reply x run → ⊥
+    other run none o e = let z : _≡_ {A = ℕ} 0 1 = cc in omega arith
+    other run (some c) o e = o (cc)
+
+    go : (o : Option Content) → Reads text o → refused 11 ≡ replyTo o → Reads text none
+    go none r e = r
+    go (some d) r e = absurd (other (d .run) (complaint (textTests d)) (apart-other 11 (textTests d) (tests-apart d)) e)
+
+    back : Reads text none → input .answer ≡ Refused 11
+    back n = answer-same (input .answer) (Refused 11) (p .replies ∙ ap replyTo (reads-unique text (p .content) none (p .reads) n))
+
+-- ---- accepted with a run and sources exactly if the text is their rendering and they pass the tests
+
+-- the sources that a reply hands out
+abbrev pub sourcesOf : Input → List Entry
+sourcesOf input = entriesOf (take (input .count) (input .periods)) (take (input .count) (input .weights))
+
+sources-handed : (text : List ℕ) (input : Input) (p : TextPromise text input) → sourcesOf input ≡ handed (p .content)
+unfolding padded
+sources-handed text input p =
+    let es = handed (p .content) in
+    let front : take (input .count) (input .periods) ≡ periodsOf es =
+    ap (take (input .count)) (p .periods) ∙ take-at (periodsOf es) _ (input .count) (periods-length es ∙ sym (p .counts)) in
+    let beside : take (input .count) (input .weights) ≡ weightsOf es =
+    ap (take (input .count)) (p .weights) ∙ take-at (weightsOf es) _ (input .count) (weights-length es ∙ sym (p .counts)) in
+    rw (front, beside) (entries-of es)
+
+pub accepted : (text : List ℕ) (input : Input) → TextPromise text input → (d : Content)
+    → ((input .answer ≡ Read (d .run)) × (sourcesOf input ≡ d .entries)) ↔ (Says text d × Passes (textTests d))
+accepted text input p d = (λ e. go (p .content) (p .reads) (sym (ap says (e .0)) ∙ p .replies) (sym (sources-handed text input p) ∙ e .1), back)
+  where
+    judged : (d′ : Content) → Says text d′ → (x : Option Complaint) → complaint (textTests d′) ≡ x → answered (d .run) ≡ reply x (d′ .run)
+        → stored x [] (d′ .entries) ≡ d .entries → Says text d × Passes (textTests d)
+    judged d′ s none c e h =
+        let runs : d .run ≡ d′ .run = cc in
+        let same : d′ ≡ d = λ k. record { run = sym runs k; entries = h k } in
+        subst (λ z. Says text z × Passes (textTests z)) same (s, record { is = c })
+    judged d′ s (some b) c e h = absurd (let z : _≡_ {A = ℕ} 0 1 = cc in omega arith)
+
+    go : (o : Option Content) → Reads text o → answered (d .run) ≡ replyTo o → handed o ≡ d .entries → Says text d × Passes (textTests d)
+    go none r e h = absurd (let z : _≡_ {A = ℕ} 0 1 = cc in omega arith)
+    go (some d′) r e h = judged d′ r (complaint (textTests d′)) refl e h
+
+    back : Says text d × Passes (textTests d) → (input .answer ≡ Read (d .run)) × (sourcesOf input ≡ d .entries)
+    back s =
+        let e = reads-unique text (p .content) (some d) (p .reads) (s .0) in (
+          answer-same (input .answer) (Read (d .run)) (p .replies ∙ ap replyTo e ∙ sym (grant-reply (d .run) (s .1))),
+          sources-handed text input p ∙ ap handed e ∙ sym (grant-stored [] (d .entries) (s .1)),
+        )

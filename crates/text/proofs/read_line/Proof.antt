@@ -1,0 +1,106 @@
+-- `text::read_line` meets its contract. The loop's invariant: the word and k numbers are passed up to `next`, and the room has the numbers.
+-- The measure is what is left of the room. Assumes nothing.
+use Prim.Native.Nat.{_-_}
+use mathlib.Core.Path.{_≡_, refl, sym, subst}
+use mathlib.Core.List.{[], _∷_}
+use native.Mathlib.Omega.{arith}
+use borrow.Author.Needs.{needs}
+use lib.ListN.{length, length-set}
+use Rattle.text.specs.Inner.{WordAt, FieldAt}
+use Rattle.text.proofs.Lines.{Passing, no-word, passing-none, passing-more, passing-bad, passing-ends}
+use Rattle.text.proofs.read_line.Statement.{statement}
+use Rattle.text.proofs.read_line.Tie as tie
+
+abbrev Inv-loop : tie.InvT-loop
+Inv-loop text at word room₀ start next₀ k₀ t10 room next k = Passing text at word (length room₀) room k next
+
+abbrev μ-loop : tie.MeasureT-loop
+μ-loop text at word room₀ start next₀ k₀ t10 room next k = length room₀ - k
+
+read-word-requires : tie.Need-read-word-requires Inv-loop μ-loop
+read-word-requires c κs = search needs
+
+enum-known-start : tie.Need-enum-known-start Inv-loop μ-loop
+enum-known-start c = search needs
+
+enum-told : tie.Need-enum-told Inv-loop μ-loop
+enum-told c = search needs
+
+returns : tie.Need-returns Inv-loop μ-loop
+returns c = no-word (subst (WordAt _ _ _) (c .enum-told .given .1) (c .before .before .read-word .ensures)) _
+
+loop-holds : tie.Need-loop-holds Inv-loop μ-loop
+loop-holds c = passing-none (subst (WordAt _ _ _) (c .before .start .given .1) (c .before .before .before .read-word .ensures)) _
+
+read-field-requires : tie.Need-read-field-requires Inv-loop μ-loop
+read-field-requires c κs = search needs
+
+enum-known-number : tie.Need-enum-known-number Inv-loop μ-loop
+enum-known-number c = search needs
+
+enum-told-2 : tie.Need-enum-told-2 Inv-loop μ-loop
+enum-told-2 c = search needs
+
+same-length : tie.Need-same-length Inv-loop μ-loop
+same-length c = c .before .before .before .before .loop .inv .long
+
+returns-2 : tie.Need-returns-2 Inv-loop μ-loop
+returns-2 c =
+    passing-bad (c .before .before .before .before .loop .inv) (omega arith)
+    (subst (FieldAt _ _) (c .enum-told2 .given .1) (c .before .before .read-field .ensures))
+
+mul-room : tie.Need-mul-room Inv-loop μ-loop
+mul-room c = search needs
+
+slice-write-room : tie.Need-slice-write-room Inv-loop μ-loop
+slice-write-room c = search needs
+
+add-k : tie.Need-add-k Inv-loop μ-loop
+add-k c = search needs
+
+loop-less : tie.Need-loop-less Inv-loop μ-loop
+loop-less c = search needs
+
+loop-again : tie.Need-loop-again Inv-loop μ-loop
+loop-again c =
+    passing-more (c .before .before .before .before .before .loop .inv) (omega arith)
+    (subst (FieldAt _ _) (c .before .number .given .1) (c .before .before .before .read-field .ensures))
+
+slice-aggregate-read-word : tie.Need-slice-aggregate-read-word Inv-loop μ-loop
+slice-aggregate-read-word c = search needs
+
+read-word-requires-2 : tie.Need-read-word-requires-2 Inv-loop μ-loop
+read-word-requires-2 c κs = search needs
+
+same-length-2 : tie.Need-same-length-2 Inv-loop μ-loop
+same-length-2 c = c .before .before .before .loop .inv .long
+
+returns-3 : tie.Need-returns-3 Inv-loop μ-loop
+returns-3 c =
+    passing-ends (c .before .before .before .loop .inv) _ refl (omega arith) (c .read-word2 .result) (c .read-word2 .ensures)
+
+pub read-line-spec : {M : Type 1} → statement M
+read-line-spec =
+    tie.close
+    (tie.spec
+    Inv-loop
+    μ-loop
+    read-word-requires
+    enum-known-start
+    enum-told
+    returns
+    loop-holds
+    read-field-requires
+    enum-known-number
+    enum-told-2
+    same-length
+    returns-2
+    mul-room
+    slice-write-room
+    add-k
+    loop-less
+    loop-again
+    slice-aggregate-read-word
+    read-word-requires-2
+    same-length-2
+    returns-3)

@@ -1,0 +1,64 @@
+-- Document 01, "The list program": the text that it reads. A text is a list of bytes.
+use Prim.Native.Nat.{ℕ, _≤_, _<_, _^_}
+use mathlib.Core.Path.{_≡_}
+use mathlib.Core.List.{List, [], _∷_, _++_}
+use lib.ListN.{length}
+use Rattle.decimal.specs.Digits.{digits}
+use Rattle.scope.specs.declared.Run.{Run}
+use Rattle.scope.specs.Entry.{Entry}
+
+-- "Single spaces, decimal numbers .., a newline after each line": what follows the word that a line begins with.
+unfoldable pub fields : List ℕ → List ℕ
+fields [] = 10 ∷ []
+fields (n ∷ numbers) = 32 ∷ digits n ++ fields numbers
+
+-- A line: a word and its numbers.
+unfoldable pub line : List ℕ → List ℕ → List ℕ
+line word numbers = word ++ fields numbers
+
+-- "decimal numbers up to 4,294,967,295".
+abbrev pub Small : List ℕ → Type 0
+Small [] = Unit {0}
+Small (n ∷ numbers) = (n < 2 ^ 32) × Small numbers
+
+-- The words `run` and `src`.
+abbrev pub runWord : List ℕ
+runWord = 114 ∷ 117 ∷ 110 ∷ []
+
+abbrev pub srcWord : List ℕ
+srcWord = 115 ∷ 114 ∷ 99 ∷ []
+
+-- "`run I T first last`": the numbers of the line.
+abbrev pub runNumbers : Run → List ℕ
+runNumbers run = run .window ∷ run .interval ∷ run .first ∷ run .last ∷ []
+
+-- "`src period weight`": the numbers of the line.
+abbrev pub srcNumbers : Entry → List ℕ
+srcNumbers entry = entry .source .period ∷ entry .weight ∷ []
+
+-- "then `src period weight` lines, none or more".
+unfoldable pub srcLines : List Entry → List ℕ
+srcLines [] = []
+srcLines (entry ∷ entries) = line srcWord (srcNumbers entry) ++ srcLines entries
+
+-- The numbers of all these lines are small.
+abbrev pub AllSmall : List Entry → Type 0
+AllSmall [] = Unit {0}
+AllSmall (entry ∷ entries) = Small (srcNumbers entry) × AllSmall entries
+
+-- What a text says: a run and sources with their weights.
+pub record Content : Type 0 where
+  pub run : Run
+  pub entries : List Entry
+
+-- "one line `run I T first last`, then `src period weight` lines": the text that says this.
+unfoldable pub textOf : Content → List ℕ
+textOf content = line runWord (runNumbers (content .run)) ++ srcLines (content .entries)
+
+-- The text has 01's form, and this is what it says.
+pub record Says (text : List ℕ) (content : Content) : Type 0 where
+  pub spelled : text ≡ textOf content
+  pub runSmall : Small (runNumbers (content .run))
+  pub allSmall : AllSmall (content .entries)
+  -- "at most 4,096 bytes"
+  pub short : length text ≤ 4096
