@@ -1,5 +1,5 @@
 -- What the inner steps of the adding call speak of besides 01's words.
-use Prim.Native.Nat.{ℕ, _%_}
+use Prim.Native.Nat.{ℕ, _%_, min}
 use mathlib.Core.Path.{_≡_}
 use mathlib.Core.Bool.{cond}
 use mathlib.Core.Option.{none}
@@ -28,3 +28,8 @@ chosen low high (entry ∷ entries) =
 -- What the cell at distance d from the left edge of a line gains from a source whose first hit there is at distance `start`.
 unfoldable pub spaced : ℕ → ℕ → ℕ → ℕ → ℕ
 spaced period start weight d = cond (eqb (d % period) start) weight 0
+
+-- The shortest of some periods, or 2,147,483,648, which is above them all.
+unfoldable pub shortestOf : List ℕ → ℕ
+shortestOf [] = 2147483648
+shortestOf (period ∷ periods) = min period (shortestOf periods)

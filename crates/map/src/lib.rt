@@ -6,13 +6,13 @@ use scope::Source;
 use scope::Verdict;
 ghost use mathlib.Core.Path.{_≡_};
 ghost use mathlib.Core.List.{[], _∷_};
-ghost use Prim.Native.Nat.{_+_, _≤_, _<_, _^_};
+ghost use Prim.Native.Nat.{min, _+_, _-_, _≤_, _<_, _^_};
 ghost use lib.ListN.{length};
 ghost use Rattle.scope.specs.Run.{Valid, ValidSource, IsBlock, cellsOf};
 ghost use Rattle.scope.specs.Entry.{entriesOf};
 ghost use Rattle.map.specs.Sum.{capped, raised};
 ghost use Rattle.map.specs.Map.{added, MapPromise};
-ghost use Rattle.map.specs.Inner.{Ready, chosen, spaced};
+ghost use Rattle.map.specs.Inner.{Ready, chosen, spaced, shortestOf};
 
 // The reply of the adding call.
 pub enum Added {
@@ -123,7 +123,7 @@ fn add_chosen(run: Run, periods: &[u32], weights: &[u32], low: u32, high: u32, m
 // The block of a run that starts at a line and has so many lines, or as many as the run has from there on.
 fn block_from(run: Run, first: u32, lines: u32) -> Run
     requires { ⌜ Valid run × (run .first ≤ first) × (first ≤ run .last) × (1 ≤ lines) ⌝ }
-    ensures { λ r. ⌜ IsBlock run r × (r .first ≡ first) × (first ≤ r .last) ⌝ }
+    ensures { λ r. ⌜ IsBlock run r × (r .first ≡ first) × (first ≤ r .last) × (r .last ≡ min (run .last) (first + (lines - 1))) ⌝ }
 {
     let last = if run.last - first < lines {
         run.last
@@ -153,9 +153,11 @@ fn add_blocks(run: Run, periods: &[u32], weights: &[u32], high: u32, lines: u32,
     }
 }
 
-// The shortest period of a list. The cells do not depend on it, only the time does.
-fn shortest(periods: &[u32]) -> u32 {
-    let mut least: u32 = 4294967295;
+// The shortest period of a list, or a number above them all where there is none. The cells do not depend on it, only the time.
+fn shortest(periods: &[u32]) -> u32
+    ensures { λ r. ⌜ r ≡ shortestOf (now (periods .entry)) ⌝ }
+{
+    let mut least: u32 = PERIODS;
     let mut at = 0;
     while at < periods.len() {
         if periods[at] < least {

@@ -142,7 +142,7 @@ refused-form text input p = (λ e. go (p .content) (p .reads) (sym (ap says e) �
 abbrev pub sourcesOf : Input → List Entry
 sourcesOf input = entriesOf (take (input .count) (input .periods)) (take (input .count) (input .weights))
 
-sources-handed : (text : List ℕ) (input : Input) (p : TextPromise text input) → sourcesOf input ≡ handed (p .content)
+pub sources-handed : (text : List ℕ) (input : Input) (p : TextPromise text input) → sourcesOf input ≡ handed (p .content)
 unfolding padded
 sources-handed text input p =
     let es = handed (p .content) in

@@ -21,10 +21,11 @@ abbrev pub Small : List ℕ → Type 0
 Small [] = Unit {0}
 Small (n ∷ numbers) = (n < 2 ^ 32) × Small numbers
 
--- The words `run` and `src`.
+-- The word `run`.
 abbrev pub runWord : List ℕ
 runWord = 114 ∷ 117 ∷ 110 ∷ []
 
+-- The word `src`.
 abbrev pub srcWord : List ℕ
 srcWord = 115 ∷ 114 ∷ 99 ∷ []
 

@@ -1,0 +1,7 @@
+pub mod Writing
+pub mod Cells
+pub mod Sources
+pub mod Mapped
+pub mod Longest
+pub mod Outputs
+pub mod Unique

@@ -1,0 +1,125 @@
+-- How long a report can be: a line has few numbers, each with few digits, and there are few lines. Assumes nothing.
+use Prim.Native.Nat.{ℕ, suc, _+_, _*_, _-_, _≤_, _<_, _^_}
+use native.Mathlib.Omega.{arith}
+use native.Mathlib.Nat.{add-zero}
+use mathlib.Core.Path.{_≡_, refl, sym, ap, _∙_, subst}
+use mathlib.Core.Bool.{Bool, true, false, cond}
+use mathlib.Core.List.{List, [], _∷_, _++_}
+use lib.Dec.{eqb}
+use lib.ListN.{length, length-append}
+use Rattle.decimal.specs.Digits.{digits}
+use Rattle.decimal.proofs.Laws.{length-le, length-32}
+use Rattle.scope.specs.declared.Run.{Run}
+use Rattle.scope.specs.declared.Source.{Source}
+use Rattle.scope.specs.Run.{Valid, cellsOf}
+use Rattle.scope.specs.Hit.{hitsFrom}
+use Rattle.scope.specs.Entry.{Entry, entriesOf}
+use Rattle.text.specs.Form.{fields, line, Small, srcWord, runWord, runNumbers}
+use Rattle.map.proofs.Raised.{Within}
+use Rattle.map.proofs.Entries.{AllValid, valid-entries, added-length, added-within}
+use Rattle.report.specs.Report.{mapWord, endWord, refusedWord, runReport, entryReport, srcReport, cellReport, mapReport, above, endReport, zeros, mapOf, cellsReport, wholeReport}
+use Rattle.report.specs.Inner.{Accepted}
+use Rattle.report.proofs.Mapped.{zeros-long}
+use Rattle.report.proofs.Sources.{hits-few}
+
+-- a line of small numbers: 11 bytes each at most
+fields-long : (numbers : List ℕ) → Small numbers → length (fields numbers) ≤ 1 + 11 * length numbers
+unfolding fields
+fields-long [] s = omega arith
+fields-long (n ∷ numbers) s = omega (arith, fields-long numbers (s .1), length-32 n (s .0), length-append (digits n) (fields numbers))
+
+pub line-long : (word numbers : List ℕ) → Small numbers → length (line word numbers) ≤ length word + (1 + 11 * length numbers)
+unfolding line
+line-long word numbers s = omega (arith, fields-long numbers s, length-append word (fields numbers))
+
+-- ---- the sources
+
+entry-long : (run : Run) (k : ℕ) (e : Entry) → cellsOf run ≤ 65536 → k < 2 ^ 32 → AllValid 255 (e ∷ []) → length (entryReport run k e) ≤ 48
+unfolding entryReport
+entry-long run k e few place v =
+    let own = v .0 in
+    let hits = hits-few run (e .source) in
+    let s = own .source in
+    line-long srcWord _ (place, (omega (arith, s .fits), (omega (arith, own .fits), (omega arith, tt))))
+
+sources-long : (run : Run) (k : ℕ) (entries : List Entry) → cellsOf run ≤ 65536 → k + length entries ≤ 65536 → AllValid 255 entries
+    → length (srcReport run k entries) ≤ 48 * length entries
+unfolding srcReport
+sources-long run k [] few place v = omega arith
+sources-long run k (e ∷ entries) few place v =
+    omega (
+      arith,
+      entry-long run k e few (omega arith) (v .0, tt),
+      sources-long run (suc k) entries few (omega arith) (v .1),
+      length-append (entryReport run k e) (srcReport run (suc k) entries),
+    )
+
+-- ---- the cells
+
+cell-long : (x value : ℕ) → x < 65536 → value ≤ 255 → length (cellReport x value) ≤ 14
+unfolding cellReport line fields
+cell-long x value h v = go (eqb value 0)
+  where
+    go : (b : Bool) → length (cond b [] (line mapWord (x ∷ value ∷ []))) ≤ 14
+    go true = omega arith
+    go false =
+        omega (
+          arith,
+          length-le 4 x (omega arith),
+          length-le 2 value (omega arith),
+          length-append (digits x) (32 ∷ digits value ++ (10 ∷ [])),
+          length-append (digits value) (10 ∷ []),
+        )
+
+cells-long : (x : ℕ) (cells : List ℕ) → x + length cells ≤ 65536 → Within 255 cells → length (mapReport x cells) ≤ 14 * length cells
+unfolding mapReport
+cells-long x [] h w = omega arith
+cells-long x (v ∷ cells) h w =
+    omega (
+      arith,
+      cell-long x v (omega arith) (w 0),
+      cells-long (suc x) cells (omega arith) (λ i. w (suc i)),
+      length-append (cellReport x v) (mapReport (suc x) cells),
+    )
+
+above-few : (cells : List ℕ) → above cells ≤ length cells
+unfolding above
+above-few [] = omega arith
+above-few (v ∷ cells) = go (eqb v 0) (above-few cells)
+  where
+    go : (b : Bool) → above cells ≤ length cells → cond b 0 1 + above cells ≤ suc (length cells)
+    go true h = omega arith
+    go false h = omega arith
+
+-- ---- the whole
+
+map-long : (run : Run) (entries : List Entry) → length (mapOf run entries) ≡ cellsOf run
+unfolding mapOf
+map-long run entries = added-length 255 run entries (zeros (cellsOf run)) ∙ zeros-long (cellsOf run)
+
+map-within : (run : Run) (entries : List Entry) → Within 255 (mapOf run entries)
+unfolding mapOf
+map-within run entries = added-within 255 run entries (zeros (cellsOf run))
+
+run-long : {run : Run} → Valid run → cellsOf run ≤ 65536 → length (runReport run) ≤ 59
+unfolding runReport
+run-long {run} v few =
+    line-long runWord (runNumbers run ++ (cellsOf run ∷ []))
+    (omega (arith, v .wide), (omega (arith, v .fits), (omega (arith, v .ordered, v .ends), (omega (arith, v .ends), (omega arith, tt)))))
+
+pub whole-long : {run : Run} {periods weights : List ℕ} → Accepted run periods weights → length (entriesOf periods weights) ≤ 64
+    → length (wholeReport run (entriesOf periods weights)) ≤ 920650
+unfolding wholeReport cellsReport endReport
+whole-long {run} {periods} {weights} a few =
+    let es = entriesOf periods weights in
+    let m = mapOf run es in
+    let cells = map-long run es in
+    let r = run-long (a .valid) (a .few) in
+    let s = sources-long run 1 es (a .few) (omega arith) (valid-entries 255 1 es (record { is = a .sound })) in
+    let l = cells-long 0 m (omega (arith, a .few)) (map-within run es) in
+    let n = above-few m in
+    let e = line-long endWord (above m ∷ []) (omega (arith, a .few), tt) in
+    let whole = length-append (runReport run) (srcReport run 1 es ++ (mapReport 0 m ++ line endWord (above m ∷ []))) in
+    let rest = length-append (srcReport run 1 es) (mapReport 0 m ++ line endWord (above m ∷ [])) in
+    let last = length-append (mapReport 0 m) (line endWord (above m ∷ [])) in
+    omega (arith, a .few)

@@ -1,0 +1,99 @@
+-- The lines of the sources: how many hits each has, and that they are written one after the other. Assumes nothing.
+use Prim.Native.Nat.{ℕ, suc, _+_, _-_, _≤_, _<_, min}
+use native.Mathlib.Omega.{arith}
+use native.Mathlib.Numerals.{add-one}
+use mathlib.Core.Path.{_≡_, refl, sym, ap, _∙_, subst}
+use mathlib.Core.List.{List, [], _∷_, _++_}
+use mathlib.Core.Option.{none}
+use lib.ListN.{length, drop, getD, drop-of-length-le}
+use borrow.Author.Tests.{ne-eqb, lt-leb}
+use Rattle.decimal.specs.Promises.{Written}
+use Rattle.scope.specs.declared.Run.{Run}
+use Rattle.scope.specs.declared.RunCell.{RunCell}
+use Rattle.scope.specs.declared.Source.{Source}
+use Rattle.scope.specs.Run.{Valid, ValidSource, cellsOf}
+use Rattle.scope.specs.Hit.{hitsFrom}
+use Rattle.scope.specs.Entry.{Entry, entriesOf, listTests}
+use Rattle.scope.specs.Refusal.{complaint}
+use Rattle.scope.specs.Reply.{answered}
+use Rattle.scope.proofs.Judged.{Passes, sound, both, grant-reply}
+use Rattle.scope.proofs.Limits.{valid-run-passes, valid-source-passes, window-cells}
+use Rattle.scope.proofs.Hits.{length-hits}
+use Rattle.hits.specs.declared.Listing.{Listing}
+use Rattle.hits.specs.declared.Listing.the-variants.{Done}
+use Rattle.hits.specs.Promise.{firstHitTests, listingTests, listed, saysListing, ListingPromise}
+use Rattle.hits.proofs.Theorems.{says-listing-once}
+use Rattle.sources.proofs.Entries.{entry, entries-from}
+use Rattle.map.proofs.Entries.{AllValid, valid-entries}
+use Rattle.report.specs.Report.{entryReport, srcReport}
+use Rattle.report.specs.Inner.{Accepted}
+use Rattle.report.proofs.Writing.{Writing, piece-fits, writing-more, writing-ends, writing-starts}
+
+-- ---- how many hits a source has
+
+pub hits-few : (run : Run) (source : Source) → length (hitsFrom run source 0) ≤ cellsOf run
+unfolding hitsFrom
+hits-few run source = omega (arith, length-hits run source 0 (cellsOf run - 0))
+
+-- a room with a place for every cell takes all hits in one call
+pub all-listed : {run : Run} {source : Source} {start : RunCell} {room : List ℕ} {r : Listing} {after : List ℕ} → Valid run → ValidSource source → start .0 ≡ 0
+    → cellsOf run ≤ length room → ListingPromise run source start room r after → r ≡ Done (length (hitsFrom run source 0))
+unfolding listingTests firstHitTests listed
+all-listed {run} {source} {start} {room} {r} v s zero long p =
+    let some-cell = window-cells v in
+    let passes : Passes (listingTests run source start room) =
+    both
+    (both (both (valid-run-passes v) (valid-source-passes s)) (sound (lt-leb (cellsOf run) (start .0) (omega (arith, v .narrow)))))
+    (sound (ne-eqb (length room) 0 (λ e. omega (arith, v .narrow)))) in
+    let hits = hitsFrom run source 0 in
+    let few = hits-few run source in
+    let all : min (length room) (length hits) ≡ length hits = omega arith in
+    let none-left : drop (length room) hits ≡ [] = drop-of-length-le hits {i = length room} (omega arith) in
+    says-listing-once r (Done (length hits))
+    (p .says ∙ sym (grant-reply _ passes) ∙ rw (zero, all, none-left))
+
+-- ---- one line after the other
+
+-- the lines of the sources before place k are written, and those from there on are within the limits
+pub record SrcLines (before : List ℕ) (at : ℕ) (run : Run) (periods weights : List ℕ) (k next : ℕ) (room : List ℕ) : Type 0 where
+  pub writing :
+      Writing before at (srcReport run 1 (entriesOf periods weights)) (srcReport run (suc k) (entriesOf (drop k periods) (drop k weights))) next room
+  pub even : length periods ≡ length weights
+  pub valid : AllValid 255 (entriesOf (drop k periods) (drop k weights))
+
+pub src-starts : {room : List ℕ} {at : ℕ} {run : Run} {periods weights : List ℕ} → Accepted run periods weights
+    → at + length (srcReport run 1 (entriesOf periods weights)) ≤ length room → SrcLines room at run periods weights 0 at room
+src-starts {room} {at} {run} {periods} {weights} a h =
+    record { writing = writing-starts room at _ h; even = a .even; valid = valid-entries 255 1 (entriesOf periods weights) (record { is = a .sound }) }
+
+module _ {before : List ℕ} {at : ℕ} {run : Run} {periods weights : List ℕ} {k next : ℕ} {room : List ℕ}
+    (w : SrcLines before at run periods weights k next room) (h : k < length periods) where
+  abbrev here : Entry
+  here = entry (getD periods k 0) (getD weights k 0)
+
+  split : entriesOf (drop k periods) (drop k weights) ≡ here ∷ entriesOf (drop (k + 1) periods) (drop (k + 1) weights)
+  split = entries-from periods weights k h (omega (arith, w .even)) ∙ rw (add-one k)
+
+  from : srcReport run (suc k) (entriesOf (drop k periods) (drop k weights))
+      ≡ entryReport run (k + 1) here ++ srcReport run (suc (k + 1)) (entriesOf (drop (k + 1) periods) (drop (k + 1) weights))
+  unfolding srcReport
+  from = rw (split, add-one k)
+
+  here-valid : AllValid 255 (here ∷ entriesOf (drop (k + 1) periods) (drop (k + 1) weights))
+  here-valid = subst (AllValid 255) split (w .valid)
+
+  pub src-valid : ValidSource (record { period = getD periods k 0 })
+  src-valid = here-valid .0 .source
+
+  pub src-fits : next + length (entryReport run (k + 1) (entry (getD periods k 0) (getD weights k 0))) ≤ length room
+  src-fits = piece-fits (w .writing) (entryReport run (k + 1) here) _ from
+
+  pub src-written : {end : ℕ} {after : List ℕ} → Written room next (entryReport run (k + 1) (entry (getD periods k 0) (getD weights k 0))) end after
+      → SrcLines before at run periods weights (k + 1) end after
+  src-written v = record { writing = writing-more (w .writing) from v; even = w .even; valid = here-valid .1 }
+
+pub src-ends : {before : List ℕ} {at : ℕ} {run : Run} {periods weights : List ℕ} {k next : ℕ} {room : List ℕ}
+    → SrcLines before at run periods weights k next room → length periods ≤ k
+    → Written before at (srcReport run 1 (entriesOf periods weights)) next room
+unfolding srcReport entriesOf
+src-ends {periods = periods} w h = writing-ends (w .writing) (rw (drop-of-length-le periods h))

@@ -1,0 +1,23 @@
+-- What the promise of the report tells: where its bytes lie, and that no second output fits. Assumes nothing.
+use Prim.Native.Nat.{ℕ, _≤_}
+use native.Mathlib.Omega.{arith}
+use mathlib.Core.Path.{_≡_, sym, ap, _∙_}
+use mathlib.Core.List.{List, _++_}
+use lib.ListN.{length, drop, length-append}
+use Rattle.text.proofs.Unique.{reads-unique}
+use Rattle.report.specs.declared.Output.{Output}
+use Rattle.report.specs.Report.{reportOf, blank, Holds, ReportPromise}
+
+-- the bytes that are printed lie within the room
+pub output-within : {text : List ℕ} {output : Output} → ReportPromise text output → output .length ≤ length (output .bytes)
+output-within p =
+    let bytes = reportOf (p .content) in
+    omega (arith, p .holds .counts, ap length (p .holds .begins), length-append bytes (drop (length bytes) blank))
+
+-- no second output fits
+pub report-unique : (text : List ℕ) (a b : Output) → ReportPromise text a → ReportPromise text b → a ≡ b
+report-unique text a b p q =
+    let e = ap reportOf (reads-unique text (p .content) (q .content) (p .reads) (q .reads)) in
+    let counts : a .length ≡ b .length = p .holds .counts ∙ ap length e ∙ sym (q .holds .counts) in
+    let begins : a .bytes ≡ b .bytes = p .holds .begins ∙ ap (λ l. l ++ drop (length l) blank) e ∙ sym (q .holds .begins) in
+    λ k. record { length = counts k; bytes = begins k }

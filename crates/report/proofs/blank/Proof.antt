@@ -1,0 +1,12 @@
+-- `report::blank` meets its contract. Assumes nothing.
+use mathlib.Core.Path.{refl}
+use Rattle.report.specs.Report.{zeros, blank}
+use Rattle.report.proofs.blank.Statement.{statement}
+use Rattle.report.proofs.blank.Tie as tie
+
+returns : tie.Need-returns
+unfolding blank zeros
+returns c = refl
+
+pub blank-spec : {M : Type 1} → statement M
+blank-spec = tie.close (tie.spec returns)

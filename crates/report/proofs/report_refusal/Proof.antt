@@ -1,0 +1,56 @@
+-- `report::report_refusal` meets its contract. Assumes nothing.
+use native.Mathlib.Omega.{arith}
+use mathlib.Core.Path.{ap}
+use mathlib.Core.List.{[], _∷_}
+use lib.ListN.{length}
+use Rattle.text.specs.Form.{line}
+use Rattle.report.specs.Report.{refusedWord}
+use Rattle.report.proofs.Writing.{written-same}
+use Rattle.report.proofs.Longest.{line-long}
+use Rattle.report.proofs.Outputs.{blank-long, holds}
+use borrow.Author.Needs.{needs}
+use Rattle.report.proofs.report_refusal.Statement.{statement}
+use Rattle.report.proofs.report_refusal.Tie as tie
+
+blank-requires : tie.Need-blank-requires
+blank-requires c κs = search needs
+
+wide-requires : tie.Need-wide-requires
+wide-requires c κs = search needs
+
+slice-aggregate-write-line : tie.Need-slice-aggregate-write-line
+slice-aggregate-write-line c = search needs
+
+slice-aggregate-write-line-2 : tie.Need-slice-aggregate-write-line-2
+slice-aggregate-write-line-2 c = search needs
+
+slice-aggregate-write-line-3 : tie.Need-slice-aggregate-write-line-3
+slice-aggregate-write-line-3 c = search needs
+
+write-line-requires : tie.Need-write-line-requires
+write-line-requires c κs =
+    let told = c .before .before .before in
+    let small = told .before .before .fits in
+    omega (
+      arith,
+      line-long refusedWord (told .wide .result ∷ []) (omega (arith, told .wide .ensures), tt),
+      ap length (told .before .blank .ensures),
+      blank-long,
+    )
+
+returns : tie.Need-returns
+returns c =
+    let told = c .before .before .before .before .before in
+    holds (told .before .blank .ensures) (written-same (ap (λ n. line refusedWord (n ∷ [])) (told .wide .ensures)) (c .before .write-line .ensures))
+
+pub report-refusal-spec : {M : Type 1} → statement M
+report-refusal-spec =
+    tie.close
+    (tie.spec
+    blank-requires
+    wide-requires
+    slice-aggregate-write-line
+    slice-aggregate-write-line-2
+    slice-aggregate-write-line-3
+    write-line-requires
+    returns)

@@ -1,0 +1,30 @@
+-- `report::report_run` meets its contract: the longest report fits into the blank room. Assumes nothing.
+use native.Mathlib.Omega.{arith}
+use mathlib.Core.Path.{ap}
+use lib.ListN.{length}
+use Rattle.map.proofs.Entries.{entries-length}
+use Rattle.report.proofs.Longest.{whole-long}
+use Rattle.report.proofs.Outputs.{blank-long, holds}
+use borrow.Author.Needs.{needs}
+use Rattle.report.proofs.report_run.Statement.{statement}
+use Rattle.report.proofs.report_run.Tie as tie
+
+blank-requires : tie.Need-blank-requires
+blank-requires c κs = search needs
+
+slice-aggregate-write-report : tie.Need-slice-aggregate-write-report
+slice-aggregate-write-report c = search needs
+
+write-report-requires : tie.Need-write-report-requires
+write-report-requires c κs =
+    let start = c .before .before .before .before in
+    let a = start .pre .0 in
+    let few = entries-length (start .args .periods .now) (start .args .weights .now) (a .even) in
+    (a, omega (arith, whole-long a (omega (arith, start .pre .1)), ap length (c .before .blank .ensures), blank-long))
+
+returns : tie.Need-returns
+returns c = holds (c .before .before .before .blank .ensures) (c .before .write-report .ensures)
+
+pub report-run-spec : {M : Type 1} → statement M
+report-run-spec =
+    tie.close (tie.spec blank-requires slice-aggregate-write-report write-report-requires returns)

@@ -1,0 +1,42 @@
+-- `report::write_map_of` meets its contract: what adding leaves in the cleared cells is the map. Assumes nothing.
+use mathlib.Core.Path.{_≡_, ap}
+use mathlib.Core.List.{_++_}
+use Rattle.scope.specs.Entry.{entriesOf}
+use Rattle.report.specs.Report.{mapReport, endReport, mapOf, cellsReport}
+use Rattle.report.proofs.Writing.{written-same, fits-same}
+use Rattle.report.proofs.Mapped.{map-is}
+use borrow.Author.Needs.{needs}
+use Rattle.report.proofs.write_map_of.Statement.{statement}
+use Rattle.report.proofs.write_map_of.Tie as tie
+
+-- the lines that are written
+lines-are : (c : tie.After-add-to-map)
+    → let a = c .before .before .before .before .before .before .args in
+    let map = c .add-to-map .last .1 .1 .1 .0 in
+    mapReport 0 map ++ endReport map ≡ cellsReport (a .run) (entriesOf (a .periods .now) (a .weights .now))
+unfolding cellsReport
+lines-are c =
+    let start = c .before .before .before .before .before .before in
+    ap (λ m. mapReport 0 m ++ endReport m) (map-is (start .pre .0) (start .pre .1 .0) (c .add-to-map .ensures))
+
+add-to-map-requires : tie.Need-add-to-map-requires
+add-to-map-requires c κs = search needs
+
+write-cells-requires : tie.Need-write-cells-requires
+write-cells-requires c κs =
+    let added = c .before .before .before .before in
+    let start = added .before .before .before .before .before .before in
+    fits-same (start .args .at) _ _ (lines-are added) (start .pre .1 .1)
+
+same-length : tie.Need-same-length
+same-length c = search needs
+
+same-length-2 : tie.Need-same-length-2
+same-length-2 c = search needs
+
+returns : tie.Need-returns
+returns c = written-same (lines-are (c .before .before .before .before .before .before .before)) (c .before .before .write-cells .ensures)
+
+pub write-map-of-spec : {M : Type 1} → statement M
+write-map-of-spec =
+    tie.close (tie.spec add-to-map-requires write-cells-requires same-length same-length-2 returns)

@@ -1,0 +1,100 @@
+-- Document 01, "The list program": what it prints.
+use Prim.Native.Nat.{ℕ, suc, _+_}
+use mathlib.Core.Path.{_≡_}
+use mathlib.Core.Bool.{cond}
+use mathlib.Core.List.{List, [], _∷_, _++_}
+use mathlib.Core.Option.{Option}
+use lib.Dec.{eqb}
+use lib.ListN.{length, drop, replicate}
+use Rattle.scope.specs.declared.Run.{Run}
+use Rattle.scope.specs.Run.{cellsOf}
+use Rattle.scope.specs.Hit.{hitsFrom}
+use Rattle.scope.specs.Reply.{Said, refused, answered}
+use Rattle.scope.specs.Entry.{Entry}
+use Rattle.text.specs.Form.{line, runWord, srcWord, runNumbers, Content}
+use Rattle.text.specs.Promise.{Reads, replyTo, handed}
+use Rattle.map.specs.Map.{added}
+use Rattle.report.specs.declared.Output.{Output}
+
+-- The word `map`.
+abbrev pub mapWord : List ℕ
+mapWord = 109 ∷ 97 ∷ 112 ∷ []
+
+-- The word `end`.
+abbrev pub endWord : List ℕ
+endWord = 101 ∷ 110 ∷ 100 ∷ []
+
+-- The word `refused`.
+abbrev pub refusedWord : List ℕ
+refusedWord = 114 ∷ 101 ∷ 102 ∷ 117 ∷ 115 ∷ 101 ∷ 100 ∷ []
+
+-- "`run` repeats the run and adds its cells".
+unfoldable pub runReport : Run → List ℕ
+runReport run = line runWord (runNumbers run ++ (cellsOf run ∷ []))
+
+-- "`src` is place, period, weight, hits": the line of the source at place k.
+unfoldable pub entryReport : Run → ℕ → Entry → List ℕ
+entryReport run k entry = line srcWord (k ∷ entry .source .period ∷ entry .weight ∷ length (hitsFrom run (entry .source) 0) ∷ [])
+
+-- The same of all sources, the first of them at place k.
+unfoldable pub srcReport : Run → ℕ → List Entry → List ℕ
+srcReport run k [] = []
+srcReport run k (entry ∷ entries) = entryReport run k entry ++ srcReport run (suc k) entries
+
+-- "`map` is cell number and value, for cells above 0": of the cell x with this value.
+unfoldable pub cellReport : ℕ → ℕ → List ℕ
+cellReport x value = cond (eqb value 0) [] (line mapWord (x ∷ value ∷ []))
+
+-- The same of all cells from number x on.
+unfoldable pub mapReport : ℕ → List ℕ → List ℕ
+mapReport x [] = []
+mapReport x (value ∷ cells) = cellReport x value ++ mapReport (suc x) cells
+
+-- How many cells are above 0.
+unfoldable pub above : List ℕ → ℕ
+above [] = 0
+above (value ∷ cells) = cond (eqb value 0) 0 1 + above cells
+
+-- "`end` counts the map lines".
+unfoldable pub endReport : List ℕ → List ℕ
+endReport cells = line endWord (above cells ∷ [])
+
+-- So many cells, or bytes, with nothing in them.
+unfoldable pub zeros : ℕ → List ℕ
+zeros n = replicate n 0
+
+-- "from a cleared map": the map of the run and its sources.
+unfoldable pub mapOf : Run → List Entry → List ℕ
+mapOf run entries = added 255 run entries (zeros (cellsOf run))
+
+-- Its lines, and the line that counts them.
+unfoldable pub cellsReport : Run → List Entry → List ℕ
+cellsReport run entries = mapReport 0 (mapOf run entries) ++ endReport (mapOf run entries)
+
+-- The whole report on a run and its sources.
+unfoldable pub wholeReport : Run → List Entry → List ℕ
+wholeReport run entries = runReport run ++ (srcReport run 1 entries ++ cellsReport run entries)
+
+-- "it prints `refused N` and nothing more", or the whole report.
+unfoldable pub printed : Said Run → List Entry → List ℕ
+printed (refused n) entries = line refusedWord (n ∷ [])
+printed (answered run) entries = wholeReport run entries
+
+-- What is printed of a text, by what it says.
+unfoldable pub reportOf : Option Content → List ℕ
+reportOf content = printed (replyTo content) (handed content)
+
+-- A room that the longest report fits into, with nothing in it.
+unfoldable pub blank : List ℕ
+blank = zeros 921600
+
+-- The room begins with these bytes, and the rest of it is 0; their number is told.
+pub record Holds (bytes : List ℕ) (output : Output) : Type 0 where
+  pub counts : output .length ≡ length bytes
+  pub begins : output .bytes ≡ bytes ++ drop (length bytes) blank
+
+-- The promise of the report: the output is what is printed of the text.
+pub record ReportPromise (text : List ℕ) (output : Output) : Type 0 where
+  pub content : Option Content
+  pub reads : Reads text content
+  pub holds : Holds (reportOf content) output

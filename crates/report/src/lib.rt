@@ -1,0 +1,278 @@
+// What the list program prints: a report on a run and its sources, or the refusal.
+// Every function is proved. `report` is the one public operation, and it asks nothing of its caller.
+use hits::Listing;
+use scope::Run;
+use scope::RunCell;
+use scope::Source;
+use text::Answer;
+ghost use Prim.Native.Nat.{_+_, _≤_};
+ghost use mathlib.Core.Path.{_≡_};
+ghost use mathlib.Core.List.{[], _∷_, _++_};
+ghost use lib.ListN.{length};
+ghost use Rattle.decimal.specs.Promises.{Written};
+ghost use Rattle.text.specs.Form.{line};
+ghost use Rattle.scope.specs.Run.{Valid, ValidSource, cellsOf};
+ghost use Rattle.scope.specs.Hit.{hitsFrom};
+ghost use Rattle.scope.specs.Entry.{entriesOf};
+ghost use Rattle.report.specs.Report.{zeros, blank, runReport, entryReport, srcReport, cellReport, mapReport, above, endReport, cellsReport, wholeReport, refusedWord, Holds, ReportPromise};
+ghost use Rattle.report.specs.Inner.{Accepted, cleared};
+
+// What the list program prints: how many bytes, and the bytes; the rest is 0. The longest report has 920,650 bytes at most.
+pub struct Output {
+    pub length: usize,
+    pub bytes: [u8; 921600],
+}
+
+// A room for the longest report, with nothing in it.
+fn blank() -> [u8; 921600]
+    ensures { λ r. ⌜ r ≡ blank ⌝ }
+{
+    [0; 921600]
+}
+
+// Writes bytes into the room at `at` and answers the place after them.
+fn write_bytes(room: &mut [u8], at: usize, bytes: &[u8]) -> usize
+    requires { ⌜ at + length (now bytes) ≤ length (now room) ⌝ }
+    ensures { λ r. ⌜ Written (now (room .entry)) at (now (bytes .entry)) r (now (room .exit)) ⌝ }
+{
+    let mut next = at;
+    let mut k = 0;
+    while k < bytes.len() {
+        room[next] = bytes[k];
+        next += 1;
+        k += 1;
+    }
+    next
+}
+
+// Writes a line, a word and its numbers, into the room at `at` and answers the place after it.
+fn write_line(room: &mut [u8], at: usize, word: &[u8], numbers: &[u64]) -> usize
+    requires { ⌜ at + length (line (now word) (now numbers)) ≤ length (now room) ⌝ }
+    ensures { λ r. ⌜ Written (now (room .entry)) at (line (now (word .entry)) (now (numbers .entry))) r (now (room .exit)) ⌝ }
+{
+    let mut next = write_bytes(room, at, word);
+    let mut k = 0;
+    while k < numbers.len() {
+        let start = write_bytes(room, next, b" ");
+        next = decimal::write_number(room, start, numbers[k]);
+        k += 1;
+    }
+    write_bytes(room, next, b"\n")
+}
+
+// The same number in 64 bits.
+fn wide(x: u8) -> u64
+    ensures { λ r. ⌜ r ≡ x ⌝ }
+{
+    x as u64
+}
+
+// Writes the line of a cell above 0; for a cell of 0 there is none.
+fn write_cell(room: &mut [u8], at: usize, cell: usize, value: u8) -> usize
+    requires { ⌜ at + length (cellReport cell value) ≤ length (now room) ⌝ }
+    ensures { λ r. ⌜ Written (now (room .entry)) at (cellReport cell value) r (now (room .exit)) ⌝ }
+{
+    if value == 0 {
+        return at;
+    }
+    let numbers = [cell as u64, wide(value)];
+    write_line(room, at, b"map", &numbers)
+}
+
+// Writes the lines of all cells above 0.
+fn write_map(room: &mut [u8], at: usize, map: &[u8]) -> usize
+    requires { ⌜ at + length (mapReport 0 (now map)) ≤ length (now room) ⌝ }
+    ensures { λ r. ⌜ Written (now (room .entry)) at (mapReport 0 (now (map .entry))) r (now (room .exit)) ⌝ }
+{
+    let mut next = at;
+    let mut x = 0;
+    while x < map.len() {
+        next = write_cell(room, next, x, map[x]);
+        x += 1;
+    }
+    next
+}
+
+// How many cells are above 0.
+fn count_above(map: &[u8]) -> u64
+    ensures { λ r. ⌜ r ≡ above (now (map .entry)) ⌝ }
+{
+    let mut count: u64 = 0;
+    let mut x = 0;
+    while x < map.len() {
+        if map[x] != 0 {
+            count += 1;
+        }
+        x += 1;
+    }
+    count
+}
+
+// Writes the lines of all cells above 0, and the line that counts them.
+fn write_cells(room: &mut [u8], at: usize, map: &[u8]) -> usize
+    requires { ⌜ at + length (mapReport 0 (now map) ++ endReport (now map)) ≤ length (now room) ⌝ }
+    ensures { λ r. ⌜ Written (now (room .entry)) at (mapReport 0 (now (map .entry)) ++ endReport (now (map .entry))) r (now (room .exit)) ⌝ }
+{
+    let next = write_map(room, at, map);
+    let numbers = [count_above(map)];
+    write_line(room, next, b"end", &numbers)
+}
+
+// Cells for the longest run that a text may have, with nothing in them.
+fn cleared() -> [u8; 65536]
+    ensures { λ r. ⌜ r ≡ cleared ⌝ }
+{
+    [0; 65536]
+}
+
+// Room for as many hits as a run that a text may have has cells.
+fn hit_room() -> [u64; 65536]
+    ensures { λ r. ⌜ 65536 ≡ length r ⌝ }
+{
+    [0; 65536]
+}
+
+// How many cells of a run a source hits. They are no more than its cells, so all of them are listed in one call.
+fn count_hits(run: Run, source: Source) -> u64
+    requires { ⌜ Valid run × ValidSource source × (cellsOf run ≤ 65536) ⌝ }
+    ensures { λ r. ⌜ r ≡ length (hitsFrom run source 0) ⌝ }
+{
+    let mut room = hit_room();
+    let Listing::Done(count) = hits::list_hits(run, source, RunCell(0), &mut room) else {
+        return 0;
+    };
+    count as u64
+}
+
+// Writes the line of the source at a place of the list, counted from 1.
+fn write_source(
+    room: &mut [u8],
+    at: usize,
+    run: Run,
+    place: usize,
+    source: Source,
+    weight: u32,
+) -> usize
+    requires { ⌜ Valid run × ValidSource source × (cellsOf run ≤ 65536) ⌝ }
+    requires { ⌜ at + length (entryReport run place (record { source = source; weight = weight })) ≤ length (now room) ⌝ }
+    ensures { λ r. ⌜ Written (now (room .entry)) at (entryReport run place (record { source = source; weight = weight })) r (now (room .exit)) ⌝ }
+{
+    let numbers = [
+        place as u64,
+        source.period as u64,
+        weight as u64,
+        count_hits(run, source),
+    ];
+    write_line(room, at, b"src", &numbers)
+}
+
+// Writes the lines of all sources.
+fn write_sources(room: &mut [u8], at: usize, run: Run, periods: &[u32], weights: &[u32]) -> usize
+    requires { ⌜ Accepted run (now periods) (now weights) ⌝ }
+    requires { ⌜ at + length (srcReport run 1 (entriesOf (now periods) (now weights))) ≤ length (now room) ⌝ }
+    ensures { λ r. ⌜ Written (now (room .entry)) at (srcReport run 1 (entriesOf (now (periods .entry)) (now (weights .entry)))) r (now (room .exit)) ⌝ }
+{
+    let mut next = at;
+    let mut k = 0;
+    while k < periods.len() {
+        next = write_source(
+            room,
+            next,
+            run,
+            k + 1,
+            Source { period: periods[k] },
+            weights[k],
+        );
+        k += 1;
+    }
+    next
+}
+
+// Writes the line of a run.
+fn write_run(room: &mut [u8], at: usize, run: Run) -> usize
+    requires { ⌜ Valid run ⌝ }
+    requires { ⌜ at + length (runReport run) ≤ length (now room) ⌝ }
+    ensures { λ r. ⌜ Written (now (room .entry)) at (runReport run) r (now (room .exit)) ⌝ }
+{
+    let numbers = [
+        run.window as u64,
+        run.interval as u64,
+        run.first as u64,
+        run.last as u64,
+        scope::cells(run),
+    ];
+    write_line(room, at, b"run", &numbers)
+}
+
+// Works the map of a run out in cleared cells, as many as the run has, and writes it.
+fn write_map_of(
+    room: &mut [u8],
+    at: usize,
+    run: Run,
+    periods: &[u32],
+    weights: &[u32],
+    map: &mut [u8],
+) -> usize
+    requires { ⌜ Accepted run (now periods) (now weights) ⌝ }
+    requires { ⌜ now map ≡ zeros (cellsOf run) ⌝ }
+    requires { ⌜ at + length (cellsReport run (entriesOf (now periods) (now weights))) ≤ length (now room) ⌝ }
+    ensures { λ r. ⌜ Written (now (room .entry)) at (cellsReport run (entriesOf (now (periods .entry)) (now (weights .entry)))) r (now (room .exit)) ⌝ }
+{
+    map::add_to_map(run, periods, weights, map);
+    write_cells(room, at, map)
+}
+
+// Writes the whole report on a run and its sources.
+fn write_report(room: &mut [u8], run: Run, periods: &[u32], weights: &[u32]) -> usize
+    requires { ⌜ Accepted run (now periods) (now weights) ⌝ }
+    requires { ⌜ 0 + length (wholeReport run (entriesOf (now periods) (now weights))) ≤ length (now room) ⌝ }
+    ensures { λ r. ⌜ Written (now (room .entry)) 0 (wholeReport run (entriesOf (now (periods .entry)) (now (weights .entry)))) r (now (room .exit)) ⌝ }
+{
+    let after_run = write_run(room, 0, run);
+    let after_sources = write_sources(room, after_run, run, periods, weights);
+    let mut map = cleared();
+    let cells = scope::cells(run) as usize;
+    write_map_of(
+        room,
+        after_sources,
+        run,
+        periods,
+        weights,
+        &mut map[0..cells],
+    )
+}
+
+// The output that is a report on a run and its sources.
+fn report_run(run: Run, periods: &[u32], weights: &[u32]) -> Output
+    requires { ⌜ Accepted run (now periods) (now weights) × (length (now periods) ≤ 64) ⌝ }
+    ensures { λ r. ⌜ Holds (wholeReport run (entriesOf (now (periods .entry)) (now (weights .entry)))) r ⌝ }
+{
+    let mut bytes = blank();
+    let length = write_report(&mut bytes, run, periods, weights);
+    Output { length, bytes }
+}
+
+// The output that is a refusal.
+fn report_refusal(number: u8) -> Output
+    ensures { λ r. ⌜ Holds (line refusedWord (number ∷ [])) r ⌝ }
+{
+    let mut bytes = blank();
+    let numbers = [wide(number)];
+    let length = write_line(&mut bytes, 0, b"refused", &numbers);
+    Output { length, bytes }
+}
+
+// Public operation. What the list program prints of a text.
+pub fn report(text: &[u8]) -> Output
+    ensures { λ r. ⌜ ReportPromise (now (text .entry)) r ⌝ }
+{
+    let input = text::read_text(text);
+    let answer = input.answer;
+    let count = input.count;
+    let periods = input.periods;
+    let weights = input.weights;
+    match answer {
+        Answer::Read(run) => report_run(run, &periods[0..count], &weights[0..count]),
+        Answer::Refused(number) => report_refusal(number),
+    }
+}
