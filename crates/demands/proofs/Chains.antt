@@ -27,7 +27,7 @@ use Rattle.hits.specs.Promise.{firstHitTests, listingTests, first, Listed, says
 use Rattle.demands.specs.FirstHit.{IsFirstHit}
 use Rattle.demands.specs.Listing.{Chain, done, more, listOf, callsOf, Lends}
 use Rattle.demands.proofs.FirstHits.{first-is}
-use Rattle.demands.proofs.Demand2Hits.{listing-some}
+use Rattle.demands.proofs.SomeReply.{listing-some}
 
 -- ---- the hits from a hit on
 
@@ -135,6 +135,7 @@ left {block} {source} {start} {next} {room} {after} {n} h =
     let size : length (hitsFrom block source (next .0)) ≡ length (hitsFrom block source (start .0)) - length room = rw (← g .rest) (length-drop (length room) (hitsFrom block source (start .0))) in
     record { wrote = t .wrote; rest = g .rest; inside = g .inside; some = omega arith; fewer = omega arith }
 
+-- "more from" names a cell of the block
 pub goes-inside : {block : Run} {source : Source} {start next : RunCell} {room after : List ℕ} {n : ℕ} → ListingPromise block source start room (More n next) after → next .0 < cellsOf block
 goes-inside h = left h .inside
 

@@ -22,13 +22,14 @@ module _ (run : Run) where
   pub valid-at : Valid run → (blocks : List Run) → Cut run blocks → (k : ℕ) → k < length blocks → Valid (getD blocks k run)
   valid-at v blocks c = block-at v (run .first) blocks (omega arith) c
 
-  -- the maps are as many as the blocks, each as long as its block
+  -- the maps are as many as the blocks
   pub maps-length : (blocks : List Run) (maps : List (List ℕ)) → Maps blocks maps → length maps ≡ length blocks
   maps-length [] [] s = refl
   maps-length [] (map ∷ maps) s = absurd s
   maps-length (block ∷ blocks) [] s = absurd s
   maps-length (block ∷ blocks) (map ∷ maps) s = ap suc (maps-length blocks maps (s .1))
 
+  -- each is as long as its block
   pub map-at : (blocks : List Run) (maps : List (List ℕ)) → Maps blocks maps → (k : ℕ) → k < length blocks → length (getD maps k []) ≡ cellsOf (getD blocks k run)
   map-at [] maps s k h = absurd (omega arith)
   map-at (block ∷ blocks) [] s k h = absurd s

@@ -16,6 +16,7 @@ module _ (run : Run) where
   cut-within line [] c = omega arith
   cut-within line (block ∷ blocks) c = let p = c .0 in omega (arith, cut-within (suc (block .last)) blocks (c .1))
 
+  -- the first block of a cut is a block of the run
   pub piece-is : {line : ℕ} {block : Run} (blocks : List Run) → run .first ≤ line → CutFrom run line (block ∷ blocks) → IsBlock run block
   piece-is {line} {block} blocks from c =
       let p = c .0 in
@@ -41,7 +42,7 @@ module _ (run : Run) where
   pub cut-valid : Valid run → (blocks : List Run) → Cut run blocks → (block : Run) → List·Memᴰ block blocks → ValidBlock block
   cut-valid v blocks c = valid-from v blocks (omega arith) c
 
-  -- cuts there are: the run itself, and the run cut after any of its lines but the last
+  -- cuts there are: the run itself
   pub cut-whole : Valid run → Cut run (run ∷ [])
   cut-whole v = (record { window = refl; interval = refl; begins = refl; ordered = v .ordered }, refl)
 
@@ -49,6 +50,7 @@ module _ (run : Run) where
   abbrev pub lines : ℕ → ℕ → Run
   lines a b = record { window = run .window; interval = run .interval; first = a; last = b }
 
+  -- and the run cut after any of its lines but the last
   pub cut-after : (line : ℕ) → run .first ≤ line → line < run .last → Cut run (lines (run .first) line ∷ lines (suc line) (run .last) ∷ [])
   cut-after line h l = (
     record { window = refl; interval = refl; begins = refl; ordered = h },
@@ -64,18 +66,22 @@ pub before-within : (run : Run) (line : ℕ) → line ≤ suc (run .last) → be
 unfolding before cellsOf linesOf
 before-within run line h = let few : line - run .first ≤ suc (run .last) - run .first = omega arith in omega (arith, mul-le-mul-right (run .window) few)
 
+-- none before the first line
 pub before-first : (run : Run) → before run (run .first) ≡ 0
 unfolding before
 before-first run = rw (sub-self (run .first)) (zero-mul (run .window))
 
+-- all before the line after the last
 pub before-end : (run : Run) {line : ℕ} → line ≡ suc (run .last) → cellsOf run ≤ before run line
 unfolding before cellsOf linesOf
 before-end run e = rw e (omega arith)
 
+-- before a block as many as its cells are moved by
 pub before-piece : {run block : Run} {line : ℕ} → Piece run line block → before run line ≡ shiftOf run block
 unfolding before shiftOf
 before-piece p = rw (p .begins)
 
+-- before the line after a block, its cells besides
 pub before-next : {run block : Run} → IsBlock run block → block .first ≤ block .last → before run (suc (block .last)) ≡ shiftOf run block + cellsOf block
 unfolding before shiftOf
 before-next {run} {block} i some = shift-next i (record { window = run .window; interval = run .interval; first = suc (block .last); last = run .last }) (omega arith) refl

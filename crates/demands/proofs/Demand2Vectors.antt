@@ -71,13 +71,6 @@ pair-exists p r I g a is = Theorems.pair-exactly-when (a .remainder) (a .fits) i
 pub one-pair : (p r I : ℕ) {left right left′ right′ : Vector} → IsPair p r I left right → IsPair p r I left′ right′ → (left ≡ left′) × (right ≡ right′)
 one-pair p r I h h′ = Theorems.one-pair h h′
 
--- No second reply fits, whatever the input. And one does.
-pub vectors-unique : (p r I : ℕ) (a b : Steps) → VectorsPromise p r I a → VectorsPromise p r I b → a ≡ b
-vectors-unique = Theorems.vectors-unique
-
-pub vectors-some : (p r I : ℕ) → (steps : Steps) × VectorsPromise p r I steps
-vectors-some = Theorems.vectors-some
-
 -- "(so they are a basis)": every point of the lattice is a whole combination of the pair.
 pub pair-is-basis : (p r I : ℕ) {left right : Vector} → IsPair p r I left right → (i j : ℤ) → p ∣ natAbs ((pos r *ℤ j) -ℤ i) → Whole left right i j
 pair-is-basis p r I h = Proposition.pair-is-basis h

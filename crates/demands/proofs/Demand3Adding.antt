@@ -1,7 +1,7 @@
--- The second half of demand 3, over the promise of the adding call alone: cut a run into blocks in whatever way, add each
--- source once to each block, in any order and over any calls, each call finding its block's map as the one before left it.
--- Then no call is refused, and every cell of the run holds the smaller of 255 and what it held plus the weights of all
--- sources that hit it. Assumes nothing.
+-- Demand 3, the map: "Add the sources to the blocks in any order, each source once to each block, each call finding the map as
+-- the one before left it: every cell then holds what it held before plus the weights of all its hits, or 255 if that is more."
+-- Over the promise of the map call alone, for every cut and every history of calls. Kept from call to call: the maps are as
+-- long as their blocks, and what is still to be added is within the limits. Assumes nothing.
 use Prim.Native.Nat.{ℕ, zero, suc, _+_, _≤_, _<_}
 use native.Mathlib.Nat.{zero-add}
 use native.Mathlib.Decide.{ℕ-discrete}
@@ -14,7 +14,7 @@ use lib.Seq.{getD-set-same, getD-set-other}
 use borrow.Author.Tests.{eq-eqb, ne-eqb}
 use Rattle.scope.specs.declared.Run.{Run}
 use Rattle.scope.specs.Run.{Valid, cellsOf}
-use Rattle.scope.specs.Entry.{Entry, entriesOf}
+use Rattle.scope.specs.Entry.{Entry}
 use Rattle.scope.proofs.Judged.{Passes, sound, both}
 use Rattle.scope.proofs.Limits.{valid-run-passes}
 use Rattle.map.specs.declared.Added.{Added}
@@ -33,6 +33,7 @@ use Rattle.demands.proofs.CutMaps.{valid-at, maps-length, map-at, befor
 
 -- ---- reordered entries
 
+-- the order of the sources changes no cell
 pub weight-perm : (run : Run) {a b : List Entry} (x : ℕ) → List·Permᴰ a b → weightAt run a x ≡ weightAt run b x
 unfolding weightAt
 weight-perm run x List·Permᴰ·nil = refl
@@ -186,6 +187,8 @@ joins run v sources first (block ∷ blocks) (map ∷ maps) (a ∷ after) low c 
 
 -- ---- the demand
 
+-- "Add the sources to the blocks in any order, each source once to each block": no call is refused, and "every cell then holds
+-- what it held before plus the weights of all its hits, or 255 if that is more".
 pub blocks-add : {run : Run} {blocks : List Run} {sources : List Entry} {maps : List (List ℕ)} {calls : List Call} → History run blocks sources maps calls → Adds run sources maps calls
 unfolding Left added
 blocks-add {run} {blocks} {sources} {maps} {calls} h =
@@ -204,7 +207,8 @@ blocks-add {run} {blocks} {sources} {maps} {calls} h =
       every-cell = λ y i. ap (λ (l : List ℕ). getD l y 0) whole ∙ added-getD 255 run sources (together maps) y (omega arith);
     }
 
--- two cuts and two histories of the same sources, from equal cells of the run, end in equal cells of the run
+-- "The certificate then compares readings that don't belong together": not so. Two cuts and two histories of the same sources,
+-- from equal cells of the run, end in equal cells of the run.
 pub same-cells : {run : Run} {sources : List Entry} {blocks other : List Run} {maps maps′ : List (List ℕ)} {calls calls′ : List Call} → History run blocks sources maps calls → History run other sources maps′ calls′ → together maps ≡ together maps′ → together (leave maps calls) ≡ together (leave maps′ calls′)
 same-cells {run} {sources} h h′ e = blocks-add h .whole ∙ ap (added 255 run sources) e ∙ sym (blocks-add h′ .whole)
 
@@ -250,6 +254,7 @@ keep-each run blocks valid sources w (suc n) maps h state =
       keep-each run blocks valid sources w n (set maps n (call .after)) (omega arith) (next-state run blocks valid call maps state (omega arith) refl),
     )
 
+-- Such a history exists for every valid run, every cut of it, all sources within the limits and all maps of the exact length.
 pub some-history : {run : Run} {blocks : List Run} {sources : List Entry} {maps : List (List ℕ)} → Valid run → Cut run blocks → AllValid 255 sources → Maps blocks maps → ((k : ℕ) → Within 255 (getD maps k [])) → History run blocks sources maps (calls-on run blocks sources maps (length blocks))
 some-history {run} {blocks} {sources} {maps} v cut w sized bytes =
     let valid = valid-at run v blocks cut in

@@ -49,7 +49,7 @@ module _ (run : Run) (source : Source) where
   first-told : (x : ℕ) → Told x (first (hitsFrom run source x))
   first-told x = told (cellsOf run) x (omega arith)
 
-  -- y is the first hit, or there is none: exactly if the list begins so
+  -- the list of hits begins with y exactly if y is the first hit
   pub first-is : (x y : ℕ) → (first (hitsFrom run source x) ≡ some y) ↔ IsFirstHit run source x y
   first-is x y = (λ e. subst (Told x) e (first-told x), λ h. go h (first (hitsFrom run source x)) (first-told x))
     where
@@ -61,6 +61,7 @@ module _ (run : Run) (source : Source) where
           let e : z ≡ y = omega (arith, low, high) in
           ap some e
 
+  -- it is empty exactly if there is none
   pub none-is : (x : ℕ) → (first (hitsFrom run source x) ≡ none) ↔ NoHitFrom run source x
   none-is x = (λ e. subst (Told x) e (first-told x), λ h. go h (first (hitsFrom run source x)) (first-told x))
     where

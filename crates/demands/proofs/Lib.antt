@@ -1,13 +1,18 @@
--- The demands of document 00, over the promises alone: the files Demand* have the statements, the others what they rest on.
+-- The demands of document 00, over the promises alone: the files Demand*, NoSecondReply, SomeReply and Texts have the
+-- statements, the others what they rest on.
 pub mod Rendered
+pub mod Rows
 pub mod Demand1
+pub mod NoSecondReply
+pub mod SomeReply
 pub mod Demand2Vectors
 pub mod FirstHits
-pub mod Readings
 pub mod Demand2Hits
+pub mod Demand2File
 pub mod Chains
 pub mod Cuts
 pub mod CutHits
 pub mod Demand3Listing
 pub mod CutMaps
 pub mod Demand3Adding
+pub mod Texts

@@ -1,19 +1,17 @@
 -- A call's tests and the rows of 01's table: the complaint has the number n exactly if the table says n. Assumes nothing.
-use Prim.Native.Nat.{ℕ, _%_, _≤_, _<_}
-use mathlib.Core.Path.{_≡_, refl, sym, subst}
-use mathlib.Core.Logic.{_↔_, _⊎_, inl, inr, ⊎-elim}
+use Prim.Native.Nat.{ℕ}
+use mathlib.Core.Path.{_≡_, refl, sym, ap, _∙_, subst}
+use mathlib.Core.Logic.{_↔_, Iff·trans, _⊎_, inl, inr, ⊎-elim}
 use mathlib.Core.Bool.{Bool, true, false}
 use mathlib.Core.List.{List, [], _∷_, _++_}
 use mathlib.Core.Option.{Option, some, none}
 use native.Mathlib.Omega.{arith}
-use lib.Dec.{ltb, leb, eqb}
-use borrow.Author.Tests.{ltb-true, lt-ltb, leb-true, le-leb, eqb-true, eq-eqb}
-use Rattle.scope.specs.Refusal.{Reason, Complaint, Tests, _when_, _andThen_, complaint, number, windowTests, lineTests, runTests, periodTests}
-use Rattle.scope.specs.declared.Run.{Run}
-use Rattle.scope.proofs.Judged.{Fails, Passes, broken, sound, first, then, both}
-use Rattle.scope.proofs.Limits.{passes-first, passes-then}
+use Rattle.scope.specs.Refusal.{Reason, Complaint, Tests, _when_, _andThen_, ofSource, nothing, orElse, complaint, number}
+use Rattle.scope.specs.Reply.{Said, refused, reply, stored}
+use Rattle.scope.proofs.Judged.{Fails, Passes, broken, sound, first, then, both, source-fails, source-passes, no-tests, refuse-reply, refuse-stored, said-refused}
+use Rattle.scope.proofs.Limits.{passes-first, passes-then, passes-source}
 use Rattle.scope.proofs.Hits.{hit-or-miss}
-use Rattle.demands.specs.Table.{Row, _given_, Says, Silent, BadWindow, BadLines, BadPeriod, runTable}
+use Rattle.demands.specs.Table.{Row, _given_, Says, Silent}
 
 -- the tests say what the table says
 pub record Renders (tests : Tests) (table : List Row) : Type 0 where
@@ -48,6 +46,7 @@ one-broken {reason} {wrong} {n} f = go (hit-or-miss wrong)
 numbered : {tests : Tests} {n m : ℕ} → n ≡ m → Fails tests n → Fails tests m
 numbered {tests} e f = subst (Fails tests) e f
 
+-- a test that is a row's proposition, decided
 pub one : {reason : Reason} {wrong : Bool} {P : Type 0} → (wrong ≡ true) ↔ P → Renders (reason when wrong) (number reason given P ∷ [])
 one {reason} {wrong} {P} e = record {
   fails = λ n. (λ f. let b = one-broken f in inl (b .1, e .0 (b .0)), λ s. ⊎-elim (λ h. numbered (h .0) (broken (e .1 (h .1)))) (λ h. absurd (h .1)) s);
@@ -105,7 +104,7 @@ _next_ {a} {b} {s} {t} f g = record {
 }
 
 -- two tests of one row: the row is so if one of them fails
-either : {a b : Tests} {m : ℕ} {P Q : Type 0} → Renders a (m given P ∷ []) → Renders b (m given Q ∷ []) → Renders (a andThen b) (m given (P ⊎ Q) ∷ [])
+pub either : {a b : Tests} {m : ℕ} {P Q : Type 0} → Renders a (m given P ∷ []) → Renders b (m given Q ∷ []) → Renders (a andThen b) (m given (P ⊎ Q) ∷ [])
 either {a} {b} {m} {P} {Q} f g = record {
   fails = λ n. (λ h. ⊎-elim (λ k. left n (f .fails n .0 k)) (λ k. right n (g .fails n .0 (k .1))) (split-fails h), λ h. ⊎-elim (λ k. numbered (k .0) (back (k .1))) (λ k. absurd (k .1)) h);
   passes = (
@@ -130,31 +129,65 @@ either {a} {b} {m} {P} {Q} f g = record {
     back (inl p) = first (f .fails m .1 (inl (refl, p)))
     back (inr q) = second q (judged a)
 
--- ---- the tests of numbers
+-- ---- tests grouped otherwise
 
-pub below : (a b : ℕ) → (ltb a b ≡ true) ↔ (a < b)
-below a b = (ltb-true a b, lt-ltb a b)
+-- tests that come to the same complaint say what the same table says
+same-complaint : {a b : Tests} {table : List Row} → complaint a ≡ complaint b → Renders a table → Renders b table
+same-complaint e r = record {
+  fails = λ n. (
+    λ f. r .fails n .0 (record { blames = f .blames; is = e ∙ f .is; numbered = f .numbered }),
+    λ s. let f = r .fails n .1 s in record { blames = f .blames; is = sym e ∙ f .is; numbered = f .numbered },
+  );
+  passes = (λ p. r .passes .0 (record { is = e ∙ p .is }), λ s. record { is = sym e ∙ r .passes .1 s .is });
+}
 
-pub at-most : (a b : ℕ) → (leb a b ≡ true) ↔ (a ≤ b)
-at-most a b = (leb-true a b, le-leb a b)
+or-else : (x y z : Option Complaint) → orElse x (orElse y z) ≡ orElse (orElse x y) z
+or-else none y z = refl
+or-else (some c) y z = refl
 
-pub equal : (a b : ℕ) → (eqb a b ≡ true) ↔ (a ≡ b)
-equal a b = (eqb-true a b, eq-eqb a b)
+-- two tests of one row, after others
+pub then-two : {a b c : Tests} {table : List Row} → Renders (a andThen (b andThen c)) table → Renders (a andThen b andThen c) table
+unfolding complaint
+then-two {a} {b} {c} r = same-complaint (or-else (complaint a) (complaint b) (complaint c)) r
 
--- ---- the rows of windows, lines, periods and runs
+-- three tests of one row, after others
+pub then-three : {a b c d : Tests} {table : List Row} → Renders (a andThen (b andThen c andThen d)) table → Renders (a andThen b andThen c andThen d) table
+unfolding complaint
+then-three {a} {b} {c} {d} r =
+    let x = complaint a in
+    let y = complaint b in
+    let z = complaint c in
+    let w = complaint d in
+    same-complaint (or-else x (orElse y z) w ∙ ap (λ o. orElse o w) (or-else x y z)) r
 
-pub window-row : (window : ℕ) → Renders (windowTests window) (1 given BadWindow window ∷ [])
-unfolding windowTests number
-window-row window = either (either (one (equal (window % 2) 1)) (one (below window 2))) (one (below 4096 window))
+-- ---- the sources of a list
 
-lines-row : (first last : ℕ) → Renders (lineTests first last) (2 given BadLines first last ∷ [])
-unfolding lineTests number
-lines-row first last = either (either (one (below first 1)) (one (below last first))) (one (below 16777216 last))
+-- no tests, no rows
+pub no-rows : Renders nothing []
+no-rows = record { fails = λ n. (λ f. not-both no-tests f, λ s. absurd s); passes = (λ p. tt, λ s. no-tests) }
 
-pub period-row : (period : ℕ) → Renders (periodTests period) (4 given BadPeriod period ∷ [])
-unfolding periodTests number
-period-row period = either (one (equal period 0)) (one (below 2147483647 period))
+-- the place of a source changes nothing
+pub of-source : {k : ℕ} {tests : Tests} {table : List Row} → Renders tests table → Renders (ofSource k tests) table
+of-source {k} {tests} r = record {
+  fails = λ n. (λ f. r .fails n .0 (own n f (judged tests)), λ s. source-fails (r .fails n .1 s));
+  passes = (λ p. r .passes .0 (passes-source p), λ s. source-passes (r .passes .1 s));
+}
+  where
+    own : (n : ℕ) → Fails (ofSource k tests) n → Passes tests ⊎ ((m : ℕ) × Fails tests m) → Fails tests n
+    own n f (inl p) = absurd (not-both (source-passes p) f)
+    own n f (inr g) = numbered (same-number (source-fails (g .1)) f) (g .1)
 
-pub run-rows : (run : Run) → Renders (runTests run) (runTable run)
-unfolding runTests number
-run-rows run = window-row (run .window) next lines-row (run .first) (run .last) next one (equal (run .interval) 0)
+-- ---- every call whose reply is made from its complaint
+
+-- a reply reads "refused n" exactly if the call's complaint has the number n
+complains : {A : Type 0} (tests : Tests) (answer : A) (said : Said A) → said ≡ reply (complaint tests) answer → (n : ℕ) → (said ≡ refused n) ↔ Fails tests n
+complains tests answer said e n = (λ h. said-refused tests answer (sym h ∙ e), λ f. e ∙ sym (refuse-reply answer f))
+
+module _ {A : Type 0} {tests : Tests} {table : List Row} (rows : Renders tests table) (answer : A) (said : Said A) (replies : said ≡ reply (complaint tests) answer) where
+  -- "Bad input gets the refusal number .. exactly when its table says so"
+  pub exactly : (n : ℕ) → (said ≡ refused n) ↔ Says table n
+  exactly n = Iff·trans (complains tests answer said replies n) (rows .fails n)
+
+  -- "a refused call stores nothing": what is lent holds what it held before
+  pub keeps : {L : Type 0} (before stores after : L) → after ≡ stored (complaint tests) before stores → (n : ℕ) → said ≡ refused n → after ≡ before
+  keeps before stores after e n h = e ∙ sym (refuse-stored before stores (complains tests answer said replies n .0 h))

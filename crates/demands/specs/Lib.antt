@@ -4,3 +4,4 @@ pub mod FirstHit
 pub mod Cut
 pub mod Listing
 pub mod Adding
+pub mod Texts

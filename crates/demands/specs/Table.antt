@@ -1,13 +1,17 @@
 -- Document 01, "The refusal numbers", as propositions: the rows that each call is judged by, in that call's order.
-use Prim.Native.Nat.{ℕ, _%_, _≤_, _<_}
+use Prim.Native.Nat.{ℕ, zero, suc, _+_, _-_, _*_, _%_, _≤_, _<_}
 use mathlib.Core.Path.{_≡_}
-use mathlib.Core.Logic.{_⊎_}
+use mathlib.Core.Logic.{_⊎_, _≢_}
 use mathlib.Core.List.{List, [], _∷_, _++_}
-use lib.ListN.{length}
+use lib.ListN.{length, getD}
 use Rattle.scope.specs.declared.Run.{Run}
 use Rattle.scope.specs.declared.Source.{Source}
 use Rattle.scope.specs.declared.RunCell.{RunCell}
 use Rattle.scope.specs.Run.{cellsOf}
+use Rattle.scope.specs.Entry.{Entry, entriesOf}
+use Rattle.saved.specs.Block.{fourAt, checkOf}
+use Rattle.saved.specs.File.{blockAt, runOf, blocksFor, fileLength}
+use Rattle.text.specs.Form.{Content, Says as Spells}
 
 -- A row of the table: "no." and "given when".
 pub record Row : Type 1 where
@@ -41,6 +45,10 @@ BadLines first last = ((first < 1) ⊎ (last < first)) ⊎ (16777216 < last)
 abbrev pub BadPeriod : ℕ → Type 0
 BadPeriod period = (period ≡ 0) ⊎ (2147483647 < period)
 
+-- "7: weight 0 or above 255".
+abbrev pub BadWeight : ℕ → Type 0
+BadWeight weight = (weight ≡ 0) ⊎ (255 < weight)
+
 -- "Order. Vectors: 1, 4, 5, 6."
 abbrev pub vectorsTable : ℕ → ℕ → ℕ → List Row
 vectorsTable p r I =
@@ -68,3 +76,83 @@ abbrev pub listingTable : Run → Source → RunCell → List ℕ → List Row
 listingTable run source start room =
     firstHitTable run source start ++
     9 given (length room ≡ 0) ∷ []
+
+-- "source by source 4 before 7".
+abbrev pub sourcesTable : List Entry → List Row
+sourcesTable [] = []
+sourcesTable (entry ∷ entries) =
+    4 given BadPeriod (entry .source .period) ∷
+    7 given BadWeight (entry .weight) ∷
+    sourcesTable entries
+
+-- The same of two lists as long as each other: the least place, counted from 0, whose source breaks 4 or 7; 4 if it breaks 4.
+pub record AtFault (periods weights : List ℕ) (n : ℕ) : Type 0 where
+  pub place : ℕ
+  pub inside : place < length periods
+  pub least : (k : ℕ) → k < place → BadPeriod (getD periods k 0) ⊎ BadWeight (getD weights k 0) → ⊥
+  pub breaks : Says (4 given BadPeriod (getD periods place 0) ∷ 7 given BadWeight (getD weights place 0) ∷ []) n
+
+-- "Map: 1, 2, 3, 10, then source by source 4 before 7, then 9."
+abbrev pub mapTable : Run → (periods weights map : List ℕ) → List Row
+mapTable run periods weights map =
+    runTable run ++
+    10 given (length periods ≢ length weights) ∷
+    sourcesTable (entriesOf periods weights) ++
+    9 given (length map ≢ cellsOf run) ∷ []
+
+-- "Saving: 1, 2, 3, 9." "9: .. map or file room not of the exact length".
+abbrev pub savingTable : Run → (map room : List ℕ) → List Row
+savingTable run map room =
+    runTable run ++
+    9 given ((length map ≢ cellsOf run) ⊎ (length room ≢ fileLength (cellsOf run))) ∷ []
+
+-- Some byte from one place up to another is not zero.
+pub record NotZero (bytes : List ℕ) (from to : ℕ) : Type 0 where
+  pub place : ℕ
+  pub low : from ≤ place
+  pub high : place < to
+  pub nonzero : getD bytes place 0 ≢ 0
+
+-- "14: wrong block number or check", of the block with number k.
+abbrev pub BadCheck : ℕ → List ℕ → Type 0
+BadCheck k block = (fourAt block 0 ≢ k) ⊎ (fourAt block 508 ≢ checkOf block)
+
+-- "15: version, spare byte or filling not as laid down", of block 0: "byte 4 = 1 (version), 5-7 zero, .. 24-507 zero".
+abbrev pub BadHeading : List ℕ → Type 0
+BadHeading block = (NotZero block 24 508 ⊎ (getD block 4 0 ≢ 1)) ⊎ NotZero block 5 8
+
+-- "the other blocks in order, 14 before 15 in each": blocks 1 to n of a file with so many cells, 504 in each block, the rest of
+-- "bytes 4-507" being filling.
+abbrev pub blocksTable : ℕ → List ℕ → ℕ → List Row
+blocksTable cells file zero = []
+blocksTable cells file (suc k) =
+    blocksTable cells file k ++
+    14 given BadCheck (suc k) (blockAt file (suc k)) ∷
+    15 given NotZero (blockAt file (suc k)) (4 + (cells - 504 * k)) 508 ∷ []
+
+-- "Reading: 13 for whole blocks, then block 0 for 14 and 15, then 1, 2, 3, 13 for the count, then the other blocks in order, 14
+-- before 15 in each, then 9."
+abbrev pub readingTable : (file map : List ℕ) → List Row
+readingTable file map =
+    13 given ((length file % 512 ≢ 0) ⊎ (length file ≡ 0)) ∷
+    14 given BadCheck 0 (blockAt file 0) ∷
+    15 given BadHeading (blockAt file 0) ∷
+    runTable (runOf file) ++
+    13 given (length file ≢ fileLength (cellsOf (runOf file))) ∷
+    blocksTable (cellsOf (runOf file)) file (blocksFor (cellsOf (runOf file))) ++
+    9 given (length map ≢ cellsOf (runOf file)) ∷ []
+
+-- "Text: 11, 1, 2, 3, 12, then each source 4 before 7": what follows 11, of what the text says.
+abbrev pub contentTable : Content → List Row
+contentTable content =
+    runTable (content .run) ++
+    12 given ((64 < length (content .entries)) ⊎ (65536 < cellsOf (content .run))) ∷
+    sourcesTable (content .entries)
+
+-- "Anything else in the text is refused 11": no run and sources are what it says.
+abbrev pub NotOfForm : List ℕ → Type 0
+NotOfForm text = (content : Content) → Spells text content → ⊥
+
+-- The table of a text says n: 11 if it has not the form, else what the table of its content says.
+abbrev pub SaysOfText : List ℕ → ℕ → Type 0
+SaysOfText text n = ((11 ≡ n) × NotOfForm text) ⊎ ((content : Content) × Spells text content × Says (contentTable content) n)

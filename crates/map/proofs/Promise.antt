@@ -25,21 +25,6 @@ module _ {run : Run} {periods weights map : List ℕ} where
   pub stores-added : {answer : Added} {after : List ℕ} → Passes (mapTests 255 run periods weights map) → MapPromise run periods weights map answer after → (says answer ≡ answered tt) × (after ≡ added 255 run (entriesOf periods weights) map)
   stores-added p m = (m .replies ∙ sym (grant-reply tt p), m .stores ∙ sym (grant-stored map (added 255 run (entriesOf periods weights) map) p))
 
--- the answer is a refusal with the number n exactly if the complaint about the call has that number
-pub refused-exactly : {run : Run} {periods weights map : List ℕ} {answer : Added} {after : List ℕ} (n : ℕ) → MapPromise run periods weights map answer after → (says answer ≡ refused n) ↔ Fails (mapTests 255 run periods weights map) n
-refused-exactly {run} {periods} {weights} {map} n m = (λ e. go (complaint tests) refl (sym (m .replies) ∙ e), λ f. m .replies ∙ sym (refuse-reply tt f))
-  where
-    tests : Tests
-    tests = mapTests 255 run periods weights map
-
-    go : (o : Option Complaint) → complaint tests ≡ o → reply {A = Unit {0}} o tt ≡ refused n → Fails tests n
-    go none i e = absurd (let z : _≡_ {A = ℕ} 0 1 = cc in omega arith)
-    go (some c) i e = record { blames = c; is = i; numbered = cc }
-
--- "A refused call .. stores nothing in anything lent."
-pub refused-keeps : {run : Run} {periods weights map : List ℕ} {answer : Added} {after : List ℕ} (n : ℕ) → MapPromise run periods weights map answer after → says answer ≡ refused n → after ≡ map
-refused-keeps {run} {periods} {weights} {map} n m e = m .stores ∙ sym (refuse-stored map (added 255 run (entriesOf periods weights) map) (refused-exactly n m .0 e))
-
 -- an answer is told by what it says
 pub says-injective : (a b : Added) → says a ≡ says b → a ≡ b
 says-injective Done Done e = refl

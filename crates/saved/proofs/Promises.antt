@@ -29,21 +29,6 @@ refuse-read f = record { says = refuse-reply _ f; stores = refuse-stored _ _ f }
 pub grant-read : {run : Run} {file map after : List ℕ} → Passes (readTests file map) → run ≡ runOf file → after ≡ mapOf file → ReadPromise file map (Of run) after
 grant-read p r e = record { says = ap answered r ∙ grant-reply _ p; stores = e ∙ grant-stored _ _ p }
 
--- what a reply tells of the tests that it was made for
-pub said-answered : {A : Type 0} {a b : A} (tests : Tests) → answered a ≡ reply (complaint tests) b → Passes tests × (a ≡ b)
-said-answered {A} {a} {b} tests e = go (complaint tests) refl e
-  where
-    go : (o : Option Complaint) → complaint tests ≡ o → answered a ≡ reply o b → Passes tests × (a ≡ b)
-    go none i e = (record { is = i }, cc)
-    go (some c) i e = absurd (let z : _≡_ {A = ℕ} 0 1 = cc in omega arith)
-
-pub said-refused : {A : Type 0} {n : ℕ} (tests : Tests) (b : A) → refused n ≡ reply (complaint tests) b → Fails tests n
-said-refused {A} {n} tests b e = go (complaint tests) refl e
-  where
-    go : (o : Option Complaint) → complaint tests ≡ o → refused n ≡ reply o b → Fails tests n
-    go none i e = absurd (let z : _≡_ {A = ℕ} 0 1 = cc in omega arith)
-    go (some c) i e = record { blames = c; is = i; numbered = cc }
-
 -- what is so of a file that passes its tests
 pub record Accepted (file : List ℕ) : Type 0 where
   pub headed : Passes (headingTests (blockAt file 0))

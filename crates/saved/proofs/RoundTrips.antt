@@ -8,7 +8,7 @@ use native.Mathlib.Omega.{arith}
 use lib.ListN.{length}
 use Rattle.scope.specs.declared.Run.{Run}
 use Rattle.scope.specs.Run.{Valid, cellsOf}
-use Rattle.scope.proofs.Judged.{sound, both, grant-stored}
+use Rattle.scope.proofs.Judged.{sound, both, grant-stored, said-answered}
 use Rattle.scope.proofs.Limits.{valid-run-passes, passes-first, passes-then}
 use Rattle.saved.specs.declared.Saved.{Saved}
 use Rattle.saved.specs.declared.Saved.the-variants.{Done, Refused as Refused·saved}
@@ -18,7 +18,7 @@ use Rattle.saved.specs.File.{fileLength, fileOf, mapOf, saveTests, readT
 use Rattle.saved.specs.Promise.{saidOfSaving, saidOfReading, SavePromise, ReadPromise}
 use Rattle.saved.proofs.Bytes.{Bytes}
 use Rattle.saved.proofs.Differs.{agrees, same}
-use Rattle.saved.proofs.Promises.{accepted, grant-save, grant-read, said-answered}
+use Rattle.saved.proofs.Promises.{accepted, grant-save, grant-read}
 use Rattle.saved.proofs.Saving.{run-read, map-read, file-passes}
 use Rattle.saved.proofs.Accepting.{length-mapOf, file-is}
 

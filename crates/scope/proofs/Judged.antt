@@ -88,3 +88,18 @@ grant-reply a p = rw (p .is)
 
 pub grant-stored : {A : Type 0} {tests : Tests} (before after : A) → Passes tests → after ≡ stored (complaint tests) before after
 grant-stored before after p = rw (p .is)
+
+-- what a reply tells of the tests that it was made for
+pub said-answered : {A : Type 0} {a b : A} (tests : Tests) → answered a ≡ reply (complaint tests) b → Passes tests × (a ≡ b)
+said-answered {A} {a} {b} tests e = go (complaint tests) refl e
+  where
+    go : (o : Option Complaint) → complaint tests ≡ o → answered a ≡ reply o b → Passes tests × (a ≡ b)
+    go none i e = (record { is = i }, cc)
+    go (some c) i e = absurd (let z : _≡_ {A = ℕ} 0 1 = cc in omega arith)
+
+pub said-refused : {A : Type 0} {n : ℕ} (tests : Tests) (b : A) → refused n ≡ reply (complaint tests) b → Fails tests n
+said-refused {A} {n} tests b e = go (complaint tests) refl e
+  where
+    go : (o : Option Complaint) → complaint tests ≡ o → refused n ≡ reply o b → Fails tests n
+    go none i e = absurd (let z : _≡_ {A = ℕ} 0 1 = cc in omega arith)
+    go (some c) i e = record { blames = c; is = i; numbered = cc }

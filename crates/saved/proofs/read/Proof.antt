@@ -5,12 +5,12 @@ use mathlib.Core.Path.{_≡_, refl, sym, ap, _∙_}
 use lib.ListN.{take}
 use Rattle.scope.specs.Run.{Valid, cellsOf}
 use Rattle.scope.specs.Refusal.{number}
-use Rattle.scope.proofs.Judged.{Passes, broken, sound, first, then, both}
+use Rattle.scope.proofs.Judged.{Passes, broken, sound, first, then, both, said-answered, said-refused}
 use Rattle.scope.proofs.Limits.{valid-run, cells-few}
 use Rattle.saved.specs.File.{blocksFor, fileLength, runOf, bytesIn, mapOf, fileTests, readTests}
 use Rattle.saved.specs.Promise.{saidOfReading}
 use Rattle.saved.proofs.Differs.{differs, agrees}
-use Rattle.saved.proofs.Promises.{accepted, refuse-read, grant-read, said-answered, said-refused}
+use Rattle.saved.proofs.Promises.{accepted, refuse-read, grant-read}
 use Rattle.saved.proofs.read.Statement.{statement}
 use Rattle.saved.proofs.read.Tie as tie
 

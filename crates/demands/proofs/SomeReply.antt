@@ -1,0 +1,108 @@
+-- For every input some reply fits each promise, so that the theorems over the promises are not empty. (That the program's own
+-- reply fits is what the check of each operation says.) Assumes nothing.
+use Prim.Native.Nat.{ℕ}
+use mathlib.Core.Path.{_≡_, refl}
+use mathlib.Core.Logic.{_⊎_, inl, inr}
+use mathlib.Core.List.{List}
+use mathlib.Core.Option.{Option, some, none}
+use Rattle.scope.specs.declared.Run.{Run}
+use Rattle.scope.specs.declared.Source.{Source}
+use Rattle.scope.specs.declared.RunCell.{RunCell}
+use Rattle.scope.specs.Hit.{hitsFrom}
+use Rattle.scope.specs.Refusal.{complaint}
+use Rattle.scope.specs.Reply.{Said, refused, answered, reply, stored}
+use Rattle.scope.proofs.Judged.{Fails, Passes}
+use Rattle.vectors.specs.declared.Steps.{Steps}
+use Rattle.vectors.specs.Promise.{VectorsPromise}
+use Rattle.vectors.proofs.Theorems as Vectors
+use Rattle.hits.specs.declared.FirstHit.{FirstHit}
+use Rattle.hits.specs.declared.FirstHit.the-variants.{At, Nothing, Refused}
+use Rattle.hits.specs.declared.Listing.{Listing}
+use Rattle.hits.specs.declared.Listing.the-variants.{Done, More, Refused as Refused·listing}
+use Rattle.hits.specs.Promise.{firstHitTests, listingTests, first, saysFirst, Listed, saysListing, listed, written, FirstHitPromise, ListingPromise}
+use Rattle.map.specs.declared.Added.{Added}
+use Rattle.map.specs.declared.Added.the-variants.{Done as Done·map, Refused as Refused·map}
+use Rattle.map.specs.Map as Map
+use Rattle.map.specs.Map.{MapPromise}
+use Rattle.map.proofs.Promise.{refused-call, granted-call}
+use Rattle.saved.specs.declared.Saved.{Saved}
+use Rattle.saved.specs.declared.Saved.the-variants.{Done as Done·saved, Refused as Refused·saved}
+use Rattle.saved.specs.declared.Loaded.{Loaded}
+use Rattle.saved.specs.declared.Loaded.the-variants.{Of, Refused as Refused·loaded}
+use Rattle.saved.specs.File.{saveTests, readTests}
+use Rattle.saved.specs.Promise.{SavePromise, ReadPromise}
+use Rattle.saved.proofs.Promises.{refuse-save, grant-save, refuse-read, grant-read}
+use Rattle.demands.proofs.Rendered.{judged}
+
+-- Some reply fits the vectors call.
+pub vectors-some : (p r I : ℕ) → (steps : Steps) × VectorsPromise p r I steps
+vectors-some = Vectors.vectors-some
+
+-- ---- first hit and listing: whatever is to be said, some reply says it
+
+abbrev firstHit : Said (Option ℕ) → FirstHit
+firstHit (answered none) = Nothing
+firstHit (answered (some y)) = At (record { 0 = y })
+firstHit (refused n) = Refused n
+
+says-first-hit : (s : Said (Option ℕ)) → saysFirst (firstHit s) ≡ s
+says-first-hit (answered none) = refl
+says-first-hit (answered (some y)) = refl
+says-first-hit (refused n) = refl
+
+abbrev ended : ℕ → Option ℕ → Listing
+ended n none = Done n
+ended n (some y) = More n (record { 0 = y })
+
+says-ended : (n : ℕ) (o : Option ℕ) → saysListing (ended n o) ≡ answered (record { count = n; next = o })
+says-ended n none = refl
+says-ended n (some y) = refl
+
+abbrev listing : Said Listed → Listing
+listing (answered l) = ended (l .count) (l .next)
+listing (refused n) = Refused·listing n
+
+says-list : (s : Said Listed) → saysListing (listing s) ≡ s
+says-list (answered l) = says-ended (l .count) (l .next)
+says-list (refused n) = refl
+
+-- Some reply fits the first-hit call.
+pub first-hit-some : (run : Run) (source : Source) (start : RunCell) → (r : FirstHit) × FirstHitPromise run source start r
+unfolding FirstHitPromise
+first-hit-some run source start =
+    let s = reply (complaint (firstHitTests run source start)) (first (hitsFrom run source (start .0))) in
+    (firstHit s, says-first-hit s)
+
+-- Some reply and some room after it fit the listing call.
+pub listing-some : (run : Run) (source : Source) (start : RunCell) (room : List ℕ) → (r : Listing) × (after : List ℕ) × ListingPromise run source start room r after
+listing-some run source start room =
+    let o = complaint (listingTests run source start room) in
+    let hits = hitsFrom run source (start .0) in
+    let s = reply o (listed hits room) in
+    (listing s, stored o room (written hits room), record { says = says-list s; holds = refl })
+
+-- ---- map, saving and reading: the call is refused, or it is done
+
+-- Some reply and some map after it fit the map call.
+pub map-some : (run : Run) (periods weights map : List ℕ) → (answer : Added) × (after : List ℕ) × MapPromise run periods weights map answer after
+map-some run periods weights map = go (judged (Map.mapTests 255 run periods weights map))
+  where
+    go : Passes (Map.mapTests 255 run periods weights map) ⊎ ((n : ℕ) × Fails (Map.mapTests 255 run periods weights map) n) → (answer : Added) × (after : List ℕ) × MapPromise run periods weights map answer after
+    go (inl p) = (Done·map, _, granted-call p refl)
+    go (inr f) = (Refused·map (f .0), map, refused-call (f .1))
+
+-- Some reply and some file after it fit saving.
+pub saving-some : (run : Run) (map room : List ℕ) → (answer : Saved) × (after : List ℕ) × SavePromise run map room answer after
+saving-some run map room = go (judged (saveTests run map room))
+  where
+    go : Passes (saveTests run map room) ⊎ ((n : ℕ) × Fails (saveTests run map room) n) → (answer : Saved) × (after : List ℕ) × SavePromise run map room answer after
+    go (inl p) = (Done·saved, _, grant-save p refl)
+    go (inr f) = (Refused·saved (f .0), room, refuse-save (f .1))
+
+-- Some reply and some map after it fit reading.
+pub reading-some : (file map : List ℕ) → (answer : Loaded) × (after : List ℕ) × ReadPromise file map answer after
+reading-some file map = go (judged (readTests file map))
+  where
+    go : Passes (readTests file map) ⊎ ((n : ℕ) × Fails (readTests file map) n) → (answer : Loaded) × (after : List ℕ) × ReadPromise file map answer after
+    go (inl p) = (Of _, _, grant-read p refl refl)
+    go (inr f) = (Refused·loaded (f .0), map, refuse-read (f .1))

@@ -1,0 +1,14 @@
+-- Document 01, "The list program": what a text that is accepted says.
+use Prim.Native.Nat.{_≤_}
+use lib.ListN.{length}
+use Rattle.scope.specs.Run.{Valid, cellsOf}
+use Rattle.sources.specs.Lists.{AllValid}
+use Rattle.text.specs.Form.{Content}
+
+-- A run and sources within the limits: those of the table of ranges, and 12's "more than 64 sources, or a run of more than
+-- 65,536 cells" kept.
+pub record Listable (content : Content) : Type 0 where
+  pub valid : Valid (content .run)
+  pub within : AllValid 255 (content .entries)
+  pub sources : length (content .entries) ≤ 64
+  pub cells : cellsOf (content .run) ≤ 65536
