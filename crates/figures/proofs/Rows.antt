@@ -1,18 +1,17 @@
 -- A row holds if its figure is an outcome of the promise, since no second one fits. Assumes nothing.
-use Prim.Native.Nat.{ℕ, zero, suc, _*_, _/_, _%_, _≤_, _∣_, min}
+use Prim.Native.Nat.{ℕ, _*_, _%_, min}
 use mathlib.Core.Path.{_≡_, refl, sym, ap, subst, subst₂, _∙_}
 use mathlib.Core.Bool.{true, not}
-use mathlib.Core.List.{List, [], _∷_, _++_, map}
-use mathlib.Core.Logic.{_↔_}
+use mathlib.Core.List.{List, [], _∷_, map}
 use mathlib.Core.Option.{Option, some, none}
 use native.Mathlib.Nat.{dvd-of-mod-eq-zero, dvd-refl, dvd-zero}
 use native.Mathlib.Omega.{arith}
 use borrow.Author.Tests.{ne-eqb}
 use lib.Dec.{T, ltb, eqb, lit<, ltb→lt}
-use lib.IntN.{ℤ, pos, negℤ, natAbs, _-ℤ_, _*ℤ_}
-use lib.ListN.{length, take, drop, replicate, drop-of-length-le}
+use lib.IntN.{pos, negℤ, natAbs, _-ℤ_, _*ℤ_}
+use lib.ListN.{length, drop, replicate, drop-of-length-le}
 use lib.Seq.{take-all}
-use lib.Signed.{_≤ℤ_, _<ℤ_, leZ, ltZ}
+use lib.Signed.{leZ, ltZ}
 use Rattle.lattice.specs.Gcd.{IsGcd}
 use Rattle.scope.specs.declared.Run.{Run}
 use Rattle.scope.specs.Run.{cellsOf, cellOf}
@@ -22,7 +21,7 @@ use Rattle.scope.specs.Reply.{Said, refused, answered, reply, stored}
 use Rattle.scope.proofs.Judged.{Passes, sound, both, grant-reply, grant-stored}
 use Rattle.vectors.specs.declared.Vector.{Vector}
 use Rattle.vectors.specs.declared.Steps.{Steps}
-use Rattle.vectors.specs.Vectors.{InLattice, IsPair, IsSingle}
+use Rattle.vectors.specs.Vectors.{InLattice, IsPair}
 use Rattle.vectors.specs.Promise.{VectorsPromise}
 use Rattle.vectors.proofs.Theorems.{vectors-unique}
 use Rattle.saved.specs.declared.Saved.{Saved}

@@ -3,12 +3,11 @@
 use Prim.Native.Nat.{ℕ, suc, _+_, _-_, _*_, _/_, _%_, _≤_, _<_}
 use native.Mathlib.Nat.{mod-lt, div-add-mod', mul-le-mul-right}
 use native.Mathlib.Omega.{arith}
-use mathlib.Core.Path.{_≡_, refl, sym, subst, ap}
+use mathlib.Core.Path.{_≡_, sym, subst, ap}
 use mathlib.Core.Logic.{_↔_, ⊎-elim}
 use mathlib.Core.Bool.{true, false}
 use Rattle.lattice.proofs.Congruence.{split, cong-iff-mod, cong-sym, cong-trans, cong-below}
 use Rattle.lattice.proofs.Differences.{On, Go, on-go, go-mod}
-use Rattle.lattice.proofs.First.{First}
 use Rattle.lattice.proofs.Stage.{start}
 use Rattle.lattice.proofs.Row.{Leftmost, on-line, leftmost}
 use Rattle.scope.specs.declared.Run.{Run}
@@ -20,8 +19,7 @@ use Rattle.scope.proofs.Hits as scope
 use Rattle.scope.proofs.Hits.{origin, hit-on, miss-on}
 use Rattle.hits.specs.declared.search.Point.{Point}
 use Rattle.hits.specs.declared.search.Stage.{Stage}
-use Rattle.hits.specs.declared.search.Found.{Found}
-use Rattle.hits.specs.declared.search.Found.the-variants.{At, Nothing}
+use Rattle.hits.specs.declared.search.Found.the-variants.{Nothing}
 use Rattle.hits.specs.Search.{Divides, Seeking, FirstFrom, Reaches, Sought}
 
 -- ---- cells by lines and distances

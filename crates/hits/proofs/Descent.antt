@@ -1,22 +1,20 @@
 -- How a point is carried down the division sequence, told of the code's stages and points: the laws of crate `lattice`,
 -- with the bounds that keep every sum small. Assumes nothing.
 use Prim.Native.Nat.{ℕ, _+_, _-_, _*_, _/_, _%_, _≤_, _<_, max}
-use native.Mathlib.Nat.{mod-lt, div-add-mod'}
+use native.Mathlib.Nat.{div-add-mod'}
 use native.Mathlib.Omega.{arith}
 use mathlib.Core.Path.{_≡_, refl, sym, subst}
-use mathlib.Core.Logic.{⊎-elim}
 use mathlib.Core.Bool.{Bool, true, false, not}
-use Rattle.lattice.proofs.Congruence.{split}
 use Rattle.lattice.proofs.Multiples.{Above}
 use Rattle.lattice.proofs.Differences.{Go, go-on}
 use Rattle.lattice.proofs.Stage as lattice
-use Rattle.lattice.proofs.First.{First, Never, first-here, first-after, never-narrow}
+use Rattle.lattice.proofs.First.{first-here, first-after}
 use Rattle.lattice.proofs.Transitions.{last-never, jump-right, jump-left, turn-right, turn-left, moved}
 use Rattle.hits.specs.declared.search.Point.{Point}
 use Rattle.hits.specs.declared.search.Stage.{Stage}
 use Rattle.hits.specs.declared.search.Found.{Found}
 use Rattle.hits.specs.declared.search.Found.the-variants.{At, Nothing}
-use Rattle.hits.specs.Search.{side, Divides, Division, Approaching, Nearer, Seeking, Reaches, Sought}
+use Rattle.hits.specs.Search.{side, Divides, Division, Approaching, Nearer, Seeking, Sought}
 
 -- ---- the next stage
 

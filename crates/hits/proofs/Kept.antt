@@ -1,24 +1,20 @@
 -- What a listing keeps on its way: n hits are written, the hits left are those from x on, and past the n the room is as it
 -- was. From there: it starts, it passes over cells that are not hit, it writes, it ends. Assumes nothing.
-use Prim.Native.Nat.{ℕ, zero, suc, _+_, _-_, _≤_, _<_, min}
+use Prim.Native.Nat.{ℕ, suc, _+_, _≤_, _<_, min}
 use native.Mathlib.Omega.{arith}
 use native.Mathlib.Numerals.{add-one}
 use mathlib.Core.Path.{_≡_, refl, sym, ap, _∙_}
 use mathlib.Core.Bool.{true, false}
 use mathlib.Core.List.{List, [], _∷_, _++_, append-assoc, append-nil}
-use mathlib.Core.Option.{Option, some, none}
-use lib.ListN.{length, take, drop, set, length-append, length-take, length-set, take-append-drop, drop-of-length-le}
-use lib.Seq.{take-suc-set, drop-set-lt, drop-drop, take-at, drop-at, take-all, take-length, append-snoc, length-take-le}
+use lib.ListN.{length, take, drop, set, length-append, length-set, take-append-drop, drop-of-length-le}
+use lib.Seq.{take-suc-set, drop-set-lt, drop-drop, take-at, drop-at, take-all, length-take-le}
 use Rattle.scope.specs.declared.Run.{Run}
 use Rattle.scope.specs.declared.Source.{Source}
-use Rattle.scope.specs.declared.RunCell.{RunCell}
 use Rattle.scope.specs.Run.{cellsOf}
 use Rattle.scope.specs.Hit.{isHit, hitsFrom}
-use Rattle.scope.specs.Reply.{answered}
 use Rattle.scope.proofs.Hits.{hits-end, hits-at, hits-over}
-use Rattle.hits.specs.declared.Listing.{Listing}
 use Rattle.hits.specs.declared.Listing.the-variants.{Done, More}
-use Rattle.hits.specs.Promise.{first, Listed, listed, written, saysListing}
+use Rattle.hits.specs.Promise.{listed, written}
 use Rattle.hits.specs.Search.{FirstFrom}
 use Rattle.hits.specs.List.{Lists}
 use Rattle.hits.proofs.Lists.{hits-same}

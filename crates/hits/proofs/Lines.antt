@@ -1,28 +1,24 @@
 -- The two loops of the listing. At the head of a line the next hit is known with its offset, and the line's first hit with
 -- it; within the line the hits are a period apart, up to the line's end; from there the walk leads to the next line.
 -- A signed number in a loop stands as its bits, z, and is `toZ w64 z`. Assumes nothing.
-use Prim.Native.Nat.{ℕ, suc, _+_, _-_, _*_, _/_, _%_, _^_, _≤_, _<_, min}
+use Prim.Native.Nat.{ℕ, _+_, _-_, _*_, _/_, _%_, _≤_, _<_, min}
 use native.Mathlib.Nat.{mod-lt, div-add-mod', mul-le-mul-right}
 use native.Mathlib.Omega.{arith}
-use mathlib.Core.Path.{_≡_, refl, sym, ap, _∙_, subst}
-use mathlib.Core.Logic.{⊎-elim}
+use mathlib.Core.Path.{_≡_, refl, ap, _∙_, subst}
 use mathlib.Core.Bool.{true, false}
 use mathlib.Core.List.{List}
 use lib.ListN.{length, set}
-use lib.IntN.{ℤ, pos, negℤ, _+ℤ_, _-ℤ_}
-use lib.Signed.{_≤ℤ_, _<ℤ_, ltZ}
+use lib.IntN.{pos, negℤ, _+ℤ_, _-ℤ_}
+use lib.Signed.{ltZ}
 use mir.Syntax.{w64}
 use mir.Val.{SFits, toZ, ofZ}
 use mir.Facts.{toZ-ofZ, toZ-pos}
 use Rattle.signed.proofs.Parts.{parts, sum, apart, neg-up, neg-dn, ltZ-true, ltZ-false}
-use Rattle.lattice.proofs.Congruence.{split}
 use Rattle.lattice.proofs.Row.{leftmost-next}
 use Rattle.scope.specs.declared.Run.{Run}
 use Rattle.scope.specs.declared.Source.{Source}
 use Rattle.scope.specs.Run.{Valid, ValidSource, cellsOf, lineOf, offsetOf}
 use Rattle.scope.specs.Hit.{isHit}
-use Rattle.scope.proofs.Limits.{cells-few}
-use Rattle.scope.proofs.Hits.{origin}
 use Rattle.hits.specs.declared.walk.Place.{Place}
 use Rattle.hits.specs.declared.walk.Walk.{Walk}
 use Rattle.hits.specs.declared.Listing.the-variants.{Done, More}

@@ -1,8 +1,6 @@
 -- The list of the hits from a cell on, by the first hit that a search finds. Assumes nothing.
-use Prim.Native.Nat.{ℕ, suc, _≤_, _<_}
-use native.Mathlib.Omega.{arith}
-use mathlib.Core.Path.{_≡_, ap, _∙_}
-use mathlib.Core.List.{List, [], _∷_}
+use Prim.Native.Nat.{ℕ, _≤_, _<_}
+use mathlib.Core.Path.{_≡_}
 use mathlib.Core.Option.{some, none}
 use Rattle.scope.specs.declared.Run.{Run}
 use Rattle.scope.specs.declared.Source.{Source}

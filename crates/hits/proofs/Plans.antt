@@ -1,12 +1,11 @@
 -- What a walk goes by: the pair, or the single vector, of a window as wide as the run's or as the period, whichever is less.
 -- By proposition 2 it leads from the first hit of each line to the first hit of the next line that has one. Assumes nothing.
-use Prim.Native.Nat.{ℕ, _+_, _-_, _*_, _/_, _%_, _≤_, _<_, min}
+use Prim.Native.Nat.{ℕ, _+_, _-_, _*_, _/_, _%_, _≤_, _<_}
 use native.Mathlib.Nat.{mod-lt, mod-le, div-add-mod', div-le-self, mul-div-cancel', mul-le-mul-right}
 use native.Mathlib.Omega.{arith}
-use mathlib.Core.Path.{_≡_, refl, sym, ap, _∙_, subst}
+use mathlib.Core.Path.{_≡_, refl, ap, _∙_, subst}
 use mathlib.Core.Bool.{true}
 use lib.IntN.{ℤ, pos, negℤ, _+ℤ_, _-ℤ_}
-use lib.Signed.{_≤ℤ_}
 use Rattle.signed.proofs.Parts.{parts, sum, neg-up, neg-dn}
 use Rattle.lattice.proofs.First.{Next}
 use Rattle.lattice.proofs.Next.{next-left, next-right, next-both, next-single}
@@ -17,13 +16,12 @@ use Rattle.vectors.specs.Promise.{Askable}
 use Rattle.vectors.proofs.Bridge.{magnitudes}
 use Rattle.scope.specs.declared.Run.{Run}
 use Rattle.scope.specs.declared.Source.{Source}
-use Rattle.scope.specs.Run.{Valid, ValidSource, cellsOf, lineOf, offsetOf}
+use Rattle.scope.specs.Run.{Valid, ValidSource, lineOf, offsetOf}
 use Rattle.scope.specs.Hit.{isHit}
 use Rattle.scope.proofs.Numbering.{line-at, distance-at}
-use Rattle.hits.specs.declared.walk.Place.{Place}
 use Rattle.hits.specs.declared.walk.Walk.{Walk}
 use Rattle.hits.specs.Walk.{Small, GoesBy, Leads, Stands, Begins, width}
-use Rattle.hits.proofs.Cells.{Points, hit-point, point-hit}
+use Rattle.hits.proofs.Cells.{hit-point, point-hit}
 use Rattle.hits.proofs.Walks.{first-point}
 
 -- ---- the place of the first hit of a line

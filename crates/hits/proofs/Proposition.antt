@@ -1,8 +1,8 @@
 -- 002's proposition 2, told of the hits of a source in a window: where a pair exists, the next hit after (i, j) is a step
 -- (α, β), a step (γ, δ) or both on, and just one of its cases applies. Assumes nothing.
-use Prim.Native.Nat.{ℕ, _+_, _-_, _*_, _/_, _%_, _≤_, _<_}
+use Prim.Native.Nat.{ℕ, _+_, _-_, _/_, _%_, _≤_, _<_}
 use native.Mathlib.Omega.{arith}
-use mathlib.Core.Path.{_≡_, refl, sym, ap, _∙_, subst}
+use mathlib.Core.Path.{_≡_, refl, ap}
 use lib.IntN.{ℤ, pos, negℤ, natAbs, _+ℤ_, _-ℤ_}
 use lib.Signed.{_≤ℤ_, _<ℤ_}
 use Rattle.signed.proofs.Parts.{parts, sum, apart, neg-up, neg-dn}

@@ -1,11 +1,10 @@
 -- The walk from the first hit of a line to the first hit of the next line that has one, told of the code's steps and places.
 -- The hits are at distances below the window's width or the period, whichever is less: there a line has at most one.
 -- Assumes nothing.
-use Prim.Native.Nat.{ℕ, _+_, _-_, _*_, _/_, _%_, _^_, _≤_, _<_, min}
+use Prim.Native.Nat.{ℕ, _+_, _-_, _*_, _/_, _%_, _^_, _≤_, _<_}
 use native.Mathlib.Nat.{mod-lt, mod-le, div-add-mod', mul-le-mul, mul-le-mul-right}
 use native.Mathlib.Omega.{arith}
-use mathlib.Core.Path.{_≡_, refl, sym, subst, ap, _∙_}
-use mathlib.Core.Logic.{_↔_, ⊎-elim}
+use mathlib.Core.Path.{_≡_, sym, subst, ap}
 use mathlib.Core.Bool.{true, false, true≢false}
 use lib.Dec.{T}
 use lib.IntN.{ℤ, pos, negsuc, negℤ, _+ℤ_, _-ℤ_}
@@ -15,11 +14,11 @@ use mir.Syntax.{w64}
 use mir.Val.{SFits, toZ, ofZ}
 use mir.Facts.{toZ-ofZ}
 use Rattle.signed.proofs.Parts.{parts, sum, apart, neg-up, neg-dn, ltZ-true, ltZ-false}
-use Rattle.lattice.proofs.Congruence.{split, cong-mod, cong-sym, cong-trans, cong-below}
+use Rattle.lattice.proofs.Congruence.{cong-mod, cong-sym, cong-trans, cong-below}
 use Rattle.lattice.proofs.First.{Next}
 use Rattle.scope.specs.declared.Run.{Run}
 use Rattle.scope.specs.declared.Source.{Source}
-use Rattle.scope.specs.Run.{Valid, ValidSource, cellsOf, lineOf, offsetOf}
+use Rattle.scope.specs.Run.{Valid, ValidSource, lineOf, offsetOf}
 use Rattle.scope.specs.Hit.{isHit}
 use Rattle.scope.proofs.Limits.{cells-few}
 use Rattle.scope.proofs.Numbering.{line-at, distance-at}

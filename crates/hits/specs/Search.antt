@@ -1,5 +1,5 @@
 -- What the inner steps of the search tell each other. A reader of the promises needs none of this.
-use Prim.Native.Nat.{ℕ, _+_, _*_, _≤_, _<_, max}
+use Prim.Native.Nat.{ℕ, _+_, _≤_, _<_, max}
 use mathlib.Core.Path.{_≡_}
 use mathlib.Core.Bool.{Bool, true, false}
 use Rattle.lattice.proofs.Differences.{Go}

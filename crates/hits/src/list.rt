@@ -5,7 +5,6 @@ use crate::walk;
 use scope::Run;
 use scope::RunCell;
 use scope::Source;
-ghost use mathlib.Core.Path.{_≡_};
 ghost use Prim.Native.Nat.{_<_};
 ghost use Rattle.scope.specs.Run.{Valid, ValidSource, cellsOf};
 ghost use Rattle.hits.specs.List.{Lists};

@@ -5,12 +5,9 @@ use scope::Source;
 use vectors::Basis;
 use vectors::Vector;
 ghost use mathlib.Core.Path.{_≡_};
-ghost use mathlib.Core.Bool.{true};
-ghost use Prim.Native.Nat.{ℕ, _+_, _-_, _*_, _/_, _%_, _≤_, _<_, _^_, min};
+ghost use Prim.Native.Nat.{_+_, _-_, _*_, _/_, _%_, _≤_, _<_, _^_, min};
 ghost use lib.IntN.{pos, _+ℤ_, _-ℤ_};
-ghost use lib.Signed.{_≤ℤ_, _<ℤ_};
 ghost use Rattle.scope.specs.Run.{Valid, ValidSource, cellsOf};
-ghost use Rattle.scope.specs.Hit.{isHit};
 ghost use Rattle.hits.specs.Walk.{Small, GoesBy, Begins, Leads, Movable, Moved, Walking, Walks};
 
 // A step of the walk: so many ticks of offset, so many cells on.

@@ -1,13 +1,9 @@
 -- The promise of the adding call: what makes it, and that no second reply and no second map fits. Assumes nothing.
 use Prim.Native.Nat.{ℕ}
-use native.Mathlib.Omega.{arith}
-use mathlib.Core.Logic.{_↔_}
-use mathlib.Core.Option.{Option, some, none}
 use mathlib.Core.Path.{_≡_, refl, sym, _∙_}
 use mathlib.Core.List.{List}
 use Rattle.scope.specs.declared.Run.{Run}
-use Rattle.scope.specs.Refusal.{Complaint, Tests, complaint}
-use Rattle.scope.specs.Reply.{refused, answered, reply}
+use Rattle.scope.specs.Reply.{answered}
 use Rattle.scope.proofs.Judged.{Fails, Passes, refuse-reply, refuse-stored, grant-reply, grant-stored}
 use Rattle.map.specs.declared.Added.{Added}
 use Rattle.map.specs.declared.Added.the-variants.{Done, Refused}

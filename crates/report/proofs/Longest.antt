@@ -1,8 +1,7 @@
 -- How long a report can be: a line has few numbers, each with few digits, and there are few lines. Assumes nothing.
-use Prim.Native.Nat.{ℕ, suc, _+_, _*_, _-_, _≤_, _<_, _^_}
+use Prim.Native.Nat.{ℕ, suc, _+_, _*_, _≤_, _<_, _^_}
 use native.Mathlib.Omega.{arith}
-use native.Mathlib.Nat.{add-zero}
-use mathlib.Core.Path.{_≡_, refl, sym, ap, _∙_, subst}
+use mathlib.Core.Path.{_≡_, _∙_}
 use mathlib.Core.Bool.{Bool, true, false, cond}
 use mathlib.Core.List.{List, [], _∷_, _++_}
 use lib.Dec.{eqb}
@@ -10,14 +9,12 @@ use lib.ListN.{length, length-append}
 use Rattle.decimal.specs.Digits.{digits}
 use Rattle.decimal.proofs.Laws.{length-le, length-32}
 use Rattle.scope.specs.declared.Run.{Run}
-use Rattle.scope.specs.declared.Source.{Source}
 use Rattle.scope.specs.Run.{Valid, cellsOf}
-use Rattle.scope.specs.Hit.{hitsFrom}
 use Rattle.scope.specs.Entry.{Entry, entriesOf}
 use Rattle.text.specs.Form.{fields, line, Small, srcWord, runWord, runNumbers}
 use Rattle.map.proofs.Raised.{Within}
 use Rattle.map.proofs.Entries.{AllValid, valid-entries, added-length, added-within}
-use Rattle.report.specs.Report.{mapWord, endWord, refusedWord, runReport, entryReport, srcReport, cellReport, mapReport, above, endReport, zeros, mapOf, cellsReport, wholeReport}
+use Rattle.report.specs.Report.{mapWord, endWord, runReport, entryReport, srcReport, cellReport, mapReport, above, endReport, zeros, mapOf, cellsReport, wholeReport}
 use Rattle.report.specs.Inner.{Accepted}
 use Rattle.report.proofs.Mapped.{zeros-long}
 use Rattle.report.proofs.Sources.{hits-few}

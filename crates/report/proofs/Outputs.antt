@@ -1,9 +1,8 @@
 -- The output of a text: from what was written into the blank room, and from what the text says. Assumes nothing.
-use Prim.Native.Nat.{ℕ, _+_, _-_, _≤_, _<_}
+use Prim.Native.Nat.{ℕ, _-_, _≤_}
 use native.Mathlib.Omega.{arith}
 use native.Mathlib.Nat.{zero-add}
 use mathlib.Core.Path.{_≡_, refl, sym, ap, _∙_, subst}
-use mathlib.Core.Option.{Option, some, none}
 use mathlib.Core.List.{List, [], _∷_, _++_}
 use lib.ListN.{length, take, drop, replicate, length-take, length-append}
 use lib.Seq.{length-take-le}
@@ -11,8 +10,8 @@ use borrow.Author.Tests.{ltb-false}
 use Rattle.decimal.specs.Promises.{Written}
 use Rattle.scope.specs.declared.Run.{Run}
 use Rattle.scope.specs.Run.{cellsOf}
-use Rattle.scope.specs.Entry.{Entry, entriesOf}
-use Rattle.scope.specs.Reply.{Said, refused, answered}
+use Rattle.scope.specs.Entry.{entriesOf}
+use Rattle.scope.specs.Reply.{refused, answered}
 use Rattle.scope.proofs.Judged.{Passes}
 use Rattle.scope.proofs.Limits.{passes-when, passes-first, passes-then, valid-run}
 use Rattle.sources.specs.Lists.{periodsOf, weightsOf}

@@ -2,9 +2,8 @@
 use Prim.Native.Nat.{ℕ, suc, _+_, _-_, _≤_, _<_, min}
 use native.Mathlib.Omega.{arith}
 use native.Mathlib.Numerals.{add-one}
-use mathlib.Core.Path.{_≡_, refl, sym, ap, _∙_, subst}
+use mathlib.Core.Path.{_≡_, sym, _∙_, subst}
 use mathlib.Core.List.{List, [], _∷_, _++_}
-use mathlib.Core.Option.{none}
 use lib.ListN.{length, drop, getD, drop-of-length-le}
 use borrow.Author.Tests.{ne-eqb, lt-leb}
 use Rattle.decimal.specs.Promises.{Written}
@@ -13,15 +12,13 @@ use Rattle.scope.specs.declared.RunCell.{RunCell}
 use Rattle.scope.specs.declared.Source.{Source}
 use Rattle.scope.specs.Run.{Valid, ValidSource, cellsOf}
 use Rattle.scope.specs.Hit.{hitsFrom}
-use Rattle.scope.specs.Entry.{Entry, entriesOf, listTests}
-use Rattle.scope.specs.Refusal.{complaint}
-use Rattle.scope.specs.Reply.{answered}
+use Rattle.scope.specs.Entry.{Entry, entriesOf}
 use Rattle.scope.proofs.Judged.{Passes, sound, both, grant-reply}
 use Rattle.scope.proofs.Limits.{valid-run-passes, valid-source-passes, window-cells}
 use Rattle.scope.proofs.Hits.{length-hits}
 use Rattle.hits.specs.declared.Listing.{Listing}
 use Rattle.hits.specs.declared.Listing.the-variants.{Done}
-use Rattle.hits.specs.Promise.{firstHitTests, listingTests, listed, saysListing, ListingPromise}
+use Rattle.hits.specs.Promise.{firstHitTests, listingTests, listed, ListingPromise}
 use Rattle.hits.proofs.Theorems.{says-listing-once}
 use Rattle.sources.proofs.Entries.{entry, entries-from}
 use Rattle.map.proofs.Entries.{AllValid, valid-entries}

@@ -6,7 +6,7 @@ use mathlib.Core.List.{List, _++_}
 use lib.ListN.{length, drop, length-append}
 use Rattle.text.proofs.Unique.{reads-unique}
 use Rattle.report.specs.declared.Output.{Output}
-use Rattle.report.specs.Report.{reportOf, blank, Holds, ReportPromise}
+use Rattle.report.specs.Report.{reportOf, blank, ReportPromise}
 
 -- the bytes that are printed lie within the room
 pub output-within : {text : List ℕ} {output : Output} → ReportPromise text output → output .length ≤ length (output .bytes)

@@ -1,14 +1,12 @@
 -- How each promise is kept, and that it fixes the reply and what is lent. Assumes nothing.
 use Prim.Native.Nat.{ℕ}
-use mathlib.Core.Path.{_≡_, refl, ap, _∙_}
+use mathlib.Core.Path.{_≡_, ap, _∙_}
 use mathlib.Core.List.{List}
-use mathlib.Core.Option.{Option, some, none}
-use native.Mathlib.Omega.{arith}
 use lib.ListN.{length}
 use Rattle.scope.specs.declared.Run.{Run}
 use Rattle.scope.specs.Run.{cellsOf}
-use Rattle.scope.specs.Refusal.{Complaint, Tests, complaint, runTests}
-use Rattle.scope.specs.Reply.{refused, answered, reply}
+use Rattle.scope.specs.Refusal.{runTests}
+use Rattle.scope.specs.Reply.{answered}
 use Rattle.scope.proofs.Judged.{Fails, Passes, refuse-reply, refuse-stored, grant-reply, grant-stored}
 use Rattle.scope.proofs.Limits.{passes-first, passes-then}
 use Rattle.saved.proofs.Differs.{same}

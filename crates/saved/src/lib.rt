@@ -3,14 +3,12 @@
 use scope::Run;
 use scope::Verdict;
 ghost use mathlib.Core.Path.{_≡_};
-ghost use mathlib.Core.List.{_++_};
 ghost use Prim.Native.Nat.{min, _+_, _-_, _*_, _/_, _≤_, _<_, _^_};
 ghost use lib.ListN.{length, take, drop, replicate};
-ghost use Rattle.scope.specs.Run.{Valid, cellsOf};
 ghost use Rattle.scope.specs.Refusal.{complaint};
 ghost use Rattle.scope.specs.Reply.{verdict, reply};
 ghost use Rattle.saved.specs.Block.{four, fourAt, checkOf, blockOf, zeros, blockTests};
-ghost use Rattle.saved.specs.File.{heading, cellBlocks, blocksFor, fileLength, fileOf, runOf, bytesIn, headingTests, mapTests, fileTests};
+ghost use Rattle.saved.specs.File.{heading, cellBlocks, blocksFor, fileLength, runOf, bytesIn, headingTests, mapTests, fileTests};
 ghost use Rattle.saved.specs.Promise.{saidOfReading, SavePromise, ReadPromise};
 
 // What saving a map came to.

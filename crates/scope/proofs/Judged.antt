@@ -4,8 +4,8 @@ use mathlib.Core.Path.{_≡_, refl, sym, ap, _∙_}
 use mathlib.Core.Bool.{Bool, true, false}
 use mathlib.Core.Option.{Option, some, none}
 use native.Mathlib.Omega.{arith}
-use Rattle.scope.specs.Refusal.{Reason, Place, call, listed, Complaint, Tests, _when_, _andThen_, ofSource, nothing, complaint, number}
-use Rattle.scope.specs.Reply.{Said, refused, answered, reply, stored, verdict}
+use Rattle.scope.specs.Refusal.{Reason, call, listed, Complaint, Tests, _when_, _andThen_, ofSource, nothing, complaint, number}
+use Rattle.scope.specs.Reply.{refused, answered, reply, stored, verdict}
 use Rattle.scope.specs.declared.Verdict.{Verdict}
 use Rattle.scope.specs.declared.Verdict.the-variants.{Fine, Refused}
 

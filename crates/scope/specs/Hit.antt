@@ -1,5 +1,5 @@
 -- Document 01, "The measurement in numbers": when a source hits a cell, and the list of the cells that it hits.
-use Prim.Native.Nat.{ℕ, zero, suc, _+_, _-_, _*_, _%_, _∣_}
+use Prim.Native.Nat.{ℕ, zero, suc, _-_, _*_, _%_, _∣_}
 use mathlib.Core.Bool.{Bool, cond}
 use mathlib.Core.List.{List, [], _∷_}
 use lib.Dec.{eqb}

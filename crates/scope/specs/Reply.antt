@@ -1,6 +1,5 @@
 -- Document 01: "A refused call answers with the number alone and stores nothing in anything lent."
 use Prim.Native.Nat.{ℕ}
-use mathlib.Core.List.{List}
 use mathlib.Core.Option.{Option, some, none}
 use Rattle.scope.specs.Refusal.{Complaint, number}
 use Rattle.scope.specs.declared.Verdict.{Verdict}

@@ -1,11 +1,11 @@
 -- A natural number p divides an integer z: p ∣ natAbs z. Told of a difference by multiples of p and by remainders.
 -- Every law holds for p = 0 too: 0 divides 0 alone, and n % 0 is n. Assumes nothing.
-use mathlib.Core.Path.{_≡_, refl, sym, ap, _∙_, subst}
+use mathlib.Core.Path.{_≡_, refl, sym, ap, _∙_}
 use mathlib.Core.Bool.{true}
 use mathlib.Core.Logic.{_↔_}
 use Prim.Native.Nat.{ℕ, zero, suc, _+_, _*_, _/_, _%_, _∣_}
 use native.Mathlib.Omega.{arith}
-use native.Mathlib.Nat.{dvd-zero, dvd-mul-left, dvd-mul-left-of-dvd, dvd-add-iff-left, dvd-iff-mod-eq-zero, div-mul-cancel, mod-add-div', add-mul-mod-self-right}
+use native.Mathlib.Nat.{dvd-mul-left, dvd-mul-left-of-dvd, dvd-add-iff-left, dvd-iff-mod-eq-zero, div-mul-cancel, mod-add-div', add-mul-mod-self-right}
 use lib.Dec.{eqb}
 use lib.IntN.{ℤ, pos, negsuc, negℤ, natAbs, _+ℤ_, _-ℤ_, _*ℤ_}
 use borrow.Author.Tests.{eqb-true, eq-eqb}

@@ -1,17 +1,17 @@
 -- The `src` lines of a text, one after the other: what is passed joins what follows, and leaves a text only one way to go on.
 -- Each law adds one line behind those passed. Assumes nothing.
-use Prim.Native.Nat.{ℕ, zero, suc, _+_, _-_, _≤_, _<_}
+use Prim.Native.Nat.{ℕ, suc, _+_, _≤_, _<_}
 use native.Mathlib.Omega.{arith}
 use native.Mathlib.Numerals.{add-one}
-use mathlib.Core.Path.{_≡_, refl, sym, ap, _∙_, subst}
+use mathlib.Core.Path.{_≡_, refl, sym, ap, _∙_}
 use mathlib.Core.List.{List, [], _∷_, _++_, append-assoc, append-nil}
-use lib.ListN.{length, take, drop, getD, set, length-append, length-drop, length-set, drop-of-length-le}
+use lib.ListN.{length, drop, getD, set, length-append, length-drop, length-set, drop-of-length-le}
 use lib.Seq.{drop-cons, set-at}
 use Rattle.scope.specs.Entry.{Entry}
 use Rattle.sources.specs.Lists.{periodsOf, weightsOf}
 use Rattle.sources.proofs.Entries.{entry, periods-length, weights-length, periods-append, weights-append}
-use Rattle.text.specs.Form.{line, fields, srcWord, srcNumbers, srcLines, AllSmall}
-use Rattle.text.specs.Inner.{Spelled, Line, NoLine, Lines, Listed, NoLines}
+use Rattle.text.specs.Form.{line, srcWord, srcNumbers, srcLines}
+use Rattle.text.specs.Inner.{Line, NoLine, Lines, Listed, NoLines}
 use Rattle.text.proofs.Lines.{spelled-within, line-split}
 
 -- `count` lines are passed up to `next`: lines that follow join them, and where none can follow, none stand at `at`

@@ -3,19 +3,19 @@ use Prim.Native.Nat.{ℕ, suc}
 use native.Mathlib.Omega.{arith}
 use mathlib.Core.Path.{_≡_, refl, sym, ap, _∙_, subst}
 use mathlib.Core.Logic.{_↔_}
-use mathlib.Core.Bool.{Bool, true, false}
-use mathlib.Core.List.{List, [], _∷_, _++_}
+use mathlib.Core.Bool.{true, false}
+use mathlib.Core.List.{List, [], _∷_}
 use mathlib.Core.Option.{Option, some, none}
 use lib.ListN.{length, getD, take}
 use lib.Seq.{take-at}
 use Rattle.scope.specs.declared.Run.{Run}
-use Rattle.scope.specs.Refusal.{Reason, Complaint, Tests, _when_, _andThen_, ofSource, nothing, orElse, placed, complaint, number, windowTests, lineTests, runTests, periodTests, weightTests}
-use Rattle.scope.specs.Reply.{Said, refused, answered, reply, stored}
+use Rattle.scope.specs.Refusal.{Complaint, Tests, _when_, _andThen_, ofSource, nothing, orElse, placed, complaint, number, windowTests, lineTests, runTests, periodTests, weightTests}
+use Rattle.scope.specs.Reply.{refused, answered, reply, stored}
 use Rattle.scope.proofs.Judged.{Passes, grant-reply, grant-stored}
 use Rattle.scope.specs.Entry.{Entry, entriesOf, entryTests, listTests}
 use Rattle.sources.specs.Lists.{periodsOf, weightsOf}
 use Rattle.sources.proofs.Entries.{entry, entries-of, periods-length, weights-length}
-use Rattle.text.specs.Form.{line, fields, runWord, srcWord, runNumbers, srcNumbers, srcLines, textOf, Content, Says}
+use Rattle.text.specs.Form.{line, runWord, srcWord, runNumbers, srcNumbers, srcLines, textOf, Content, Says}
 use Rattle.text.specs.Promise.{Reads, textTests, replyTo, handed, padded, says, TextPromise}
 use Rattle.text.specs.declared.Answer.{Answer}
 use Rattle.text.specs.declared.Answer.the-variants.{Read, Refused}

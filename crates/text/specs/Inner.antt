@@ -7,8 +7,6 @@ use lib.ListN.{length, drop}
 use Rattle.decimal.specs.Digits.{digits, beginsWithDigit}
 use Rattle.decimal.specs.declared.Number.{Number}
 use Rattle.decimal.specs.declared.Number.the-variants.{Value, Bad}
-use Rattle.scope.specs.declared.Run.{Run}
-use Rattle.scope.specs.declared.Source.{Source}
 use Rattle.scope.specs.Entry.{Entry}
 use Rattle.sources.specs.Lists.{periodsOf, weightsOf}
 use Rattle.text.specs.Form.{line, Small, runWord, srcWord, runNumbers, srcLines, AllSmall}

@@ -5,7 +5,7 @@ use scope::Run;
 use scope::Source;
 use scope::Verdict;
 ghost use mathlib.Core.Path.{_≡_};
-ghost use lib.ListN.{length, set};
+ghost use lib.ListN.{set};
 ghost use Rattle.text.specs.Promise.{refusal, TextPromise};
 ghost use Rattle.text.specs.Inner.{WordAt, FieldAt, LineAt, RunAt, SourceAt, SourcesAt};
 

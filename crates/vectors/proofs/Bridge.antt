@@ -1,16 +1,15 @@
 -- The pair and the lattice over the integers, as 01 has them, are those over magnitudes, as the mathematics has them.
 -- Assumes nothing.
-use Prim.Native.Nat.{ℕ, zero, suc, _+_, _*_, _%_, _≤_, _<_, _∣_}
-use mathlib.Core.Path.{_≡_, refl, sym, ap, ap₂, subst, _∙_}
+use Prim.Native.Nat.{ℕ, _+_, _*_}
+use mathlib.Core.Path.{_≡_, sym, ap, subst, _∙_}
 use mathlib.Core.Logic.{_↔_}
-use native.Mathlib.Nat.{add-comm}
 use native.Mathlib.Omega.{arith}
-use lib.IntN.{ℤ, pos, negsuc, negℤ, natAbs, _+ℤ_, _-ℤ_, _*ℤ_}
-use lib.Signed.{_≤ℤ_, _<ℤ_}
-use Rattle.signed.proofs.Parts.{parts, up, dn, sum, product, neg-up, neg-dn, apart, abs-parts}
+use lib.IntN.{ℤ, pos, negℤ, natAbs, _+ℤ_, _-ℤ_, _*ℤ_}
+use lib.Signed.{_≤ℤ_}
+use Rattle.signed.proofs.Parts.{parts, sum, neg-up, neg-dn, apart, abs-parts}
 use Rattle.signed.proofs.Difference.{diff, pos-diff, diff-neg, differences}
 use Rattle.signed.proofs.Divides.{divides-apart}
-use Rattle.lattice.proofs.Congruence.{Cong, cong-iff-mod}
+use Rattle.lattice.proofs.Congruence.{cong-iff-mod}
 use Rattle.lattice.proofs.Differences.{Lft, Rgt}
 use Rattle.lattice.proofs.Pair.{Pair}
 use Rattle.vectors.specs.declared.Vector.{Vector}

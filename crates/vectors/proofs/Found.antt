@@ -1,13 +1,13 @@
 -- What stands where the division sequence is stopped: the single vector, or the pair. Assumes nothing.
 use Prim.Native.Nat.{ℕ, zero, suc, _+_, _-_, _*_, _/_, _≤_, _<_}
-use mathlib.Core.Path.{_≡_, refl, sym, ap, ap₂, subst₂, _∙_}
+use mathlib.Core.Path.{_≡_, refl, sym, ap, subst₂, _∙_}
 use mathlib.Core.Bool.{true, false}
 use native.Mathlib.Omega.{arith}
 use lib.IntN.{ℤ, pos, negℤ, natAbs}
 use lib.Signed.{ltZ}
 use Rattle.signed.proofs.Parts.{parts, neg-up, neg-dn}
 use Rattle.lattice.proofs.Gcd.{last-gcd, last-lines}
-use Rattle.lattice.proofs.Multiples.{Rest, rest}
+use Rattle.lattice.proofs.Multiples.{rest}
 use Rattle.lattice.proofs.Pair.{Paired, paired}
 use Rattle.lattice.proofs.Stage.{Side, left, right, other, ended, start}
 use Rattle.vectors.specs.declared.Vector.{Vector}

@@ -1,7 +1,7 @@
 -- 002's first proposition over the integers, as it is worded there: the pair is a basis of the lattice, and its second half.
 -- Where there is no pair, the window's hits. Assumes nothing.
-use Prim.Native.Nat.{ℕ, zero, suc, _+_, _-_, _*_, _/_, _%_, _≤_, _<_, _∣_}
-use mathlib.Core.Path.{_≡_, refl, sym, ap, ap₂, subst, subst₂, _∙_}
+use Prim.Native.Nat.{ℕ, _+_, _*_, _/_, _≤_, _<_, _∣_}
+use mathlib.Core.Path.{_≡_, sym, ap, subst, subst₂}
 use mathlib.Core.Logic.{_↔_}
 use native.Mathlib.Nat.{mul-div-cancel'}
 use native.Mathlib.Omega.{arith}
@@ -13,14 +13,13 @@ use Rattle.signed.proofs.Divides.{divides-apart}
 use Rattle.lattice.specs.Gcd.{IsGcd}
 use Rattle.lattice.proofs.Congruence.{Cong, cong-iff-mod}
 use Rattle.lattice.proofs.Differences.{Go}
-use Rattle.lattice.proofs.Law.{Steps}
 use Rattle.lattice.proofs.Next.{single-place, period}
-use Rattle.lattice.proofs.Pair.{Pair, extent}
-use Rattle.lattice.proofs.Span.{Combined, combined}
+use Rattle.lattice.proofs.Pair.{extent}
+use Rattle.lattice.proofs.Span.{combined}
 use Rattle.lattice.proofs.Unique.{pair-steps}
 use Rattle.vectors.specs.declared.Vector.{Vector}
 use Rattle.vectors.specs.Vectors.{InLattice, IsPair}
-use Rattle.vectors.proofs.Bridge.{leftward, rightward, Magnitudes, magnitudes}
+use Rattle.vectors.proofs.Bridge.{magnitudes}
 
 -- a vector of the lattice leads from distance d to distance e, e - d being its offset
 pub lies-go : (p r : ℕ) (v : Vector) (d e : ℕ) → v .offset +ℤ pos d ≡ pos e → InLattice p r v ↔ Go p r d (v .line) e

@@ -1,20 +1,19 @@
 -- A step of the division sequence: what u plus q times v is, and that every number on the way fits.
 -- Measure of the sequence: the size of v's offset, which falls. Assumes nothing.
-use mathlib.Core.Path.{_≡_, refl, sym, ap, _∙_, subst}
+use mathlib.Core.Path.{_≡_, refl, sym, ap, _∙_}
 use Prim.Native.Nat.{ℕ, zero, suc, _+_, _-_, _*_, _/_, _%_, _^_, _≤_, _<_}
 use native.Mathlib.Nat.{div-add-mod', div-mul-le-self, mod-lt}
 use native.Mathlib.Omega.{arith}
-use lib.IntN.{ℤ, pos, negℤ, natAbs, _+ℤ_, _*ℤ_}
+use lib.IntN.{pos, negℤ, natAbs, _+ℤ_, _*ℤ_}
 use mir.Syntax.{w64}
-use mir.Val.{SFits, Fits}
+use mir.Val.{SFits}
 use Rattle.signed.proofs.Parts.{parts, neg-up, neg-dn}
 use Rattle.signed.proofs.Difference.{differences}
-use Rattle.lattice.proofs.Multiples.{Rest, rest}
+use Rattle.lattice.proofs.Multiples.{rest}
 use Rattle.lattice.proofs.Stage.{Side, left, right, other, Stage, bounds, slide-bound}
 use Rattle.lattice.proofs.Stage as Stage
 use Rattle.vectors.specs.declared.Vector.{Vector}
-use Rattle.vectors.specs.declared.Turn.{Turn}
-use Rattle.vectors.specs.Sequence.{plusTimes, nextOf, partnerOf, toward, Moves, Successive, Reaches, Ready, Stopped, Open}
+use Rattle.vectors.specs.Sequence.{plusTimes, nextOf, toward, Moves, Successive, Reaches, Ready, Open}
 
 abs-toward : (s : Side) (n : ℕ) → natAbs (toward s n) ≡ n
 abs-toward left zero = refl

@@ -1,11 +1,10 @@
 -- What demand 2 says of the step vectors, over the promise alone. Assumes nothing.
-use Prim.Native.Nat.{ℕ, zero, suc, _+_, _*_, _/_, _%_, _≤_, _<_, _∣_}
-use mathlib.Core.Path.{_≡_, refl, sym, ap, ap₂, subst, _∙_}
-use mathlib.Core.Logic.{_↔_, _⊎_, ⊎-elim}
+use Prim.Native.Nat.{ℕ, _/_, _≤_, _<_}
+use mathlib.Core.Path.{_≡_, refl, sym, ap, ap₂, _∙_}
+use mathlib.Core.Logic.{_↔_, ⊎-elim}
 use mathlib.Core.Option.{Option, some, none}
 use native.Mathlib.Omega.{arith}
-use lib.Dec.{ltb, leb}
-use lib.IntN.{ℤ, pos, negsuc, negℤ, natAbs, _+ℤ_, _-ℤ_, _*ℤ_}
+use lib.IntN.{pos}
 use Rattle.lattice.proofs.Gcd.{IsGcd, gcd-unique}
 use Rattle.lattice.proofs.Pair.{Pair, SomePair, pair-iff, pair-gcd, reach, reached-cases}
 use Rattle.lattice.proofs.Unique.{pair-unique}
@@ -19,9 +18,9 @@ use Rattle.vectors.specs.declared.Basis.{Basis}
 use Rattle.vectors.specs.declared.Basis.the-variants.{Two, One}
 use Rattle.vectors.specs.declared.Steps.{Steps}
 use Rattle.vectors.specs.declared.Steps.the-variants as reply
-use Rattle.vectors.specs.Vectors.{InLattice, IsPair, IsSingle}
+use Rattle.vectors.specs.Vectors.{IsPair, IsSingle}
 use Rattle.vectors.specs.Promise.{Spans, says, Admits, VectorsPromise, vectorsTests}
-use Rattle.vectors.proofs.Bridge.{leftward, rightward, Magnitudes, magnitudes, from-magnitudes}
+use Rattle.vectors.proofs.Bridge.{leftward, rightward, magnitudes, from-magnitudes}
 
 -- "At most one such pair exists."
 pub one-pair : {p r I : ℕ} {l g l′ g′ : Vector} → IsPair p r I l g → IsPair p r I l′ g′ → (l ≡ l′) × (g ≡ g′)

@@ -5,7 +5,6 @@ use mathlib.Core.Option.{Option, some, none}
 use lib.Dec.{ltb, leb}
 use Rattle.scope.specs.Refusal.{Complaint, Tests, _when_, _andThen_, Remainder, WiderThanPeriod, complaint, number, windowTests, periodTests}
 use Rattle.scope.specs.Reply.{Said, refused, answered}
-use Rattle.vectors.specs.declared.Vector.{Vector}
 use Rattle.vectors.specs.declared.Basis.{Basis}
 use Rattle.vectors.specs.declared.Basis.the-variants.{Two, One}
 use Rattle.vectors.specs.declared.Steps.{Steps}

@@ -1,7 +1,7 @@
 -- Document 01, "Step vectors": the lattice, the pair and the single vector.
 use Prim.Native.Nat.{ℕ, _*_, _/_, _≤_, _<_, _∣_}
 use mathlib.Core.Path.{_≡_}
-use lib.IntN.{ℤ, pos, negℤ, natAbs, _-ℤ_, _*ℤ_}
+use lib.IntN.{pos, negℤ, natAbs, _-ℤ_, _*ℤ_}
 use lib.Signed.{_≤ℤ_, _<ℤ_}
 use Rattle.lattice.specs.Gcd.{IsGcd}
 use Rattle.vectors.specs.declared.Vector.{Vector}

@@ -1,7 +1,6 @@
 -- `hits::first_hit` meets its promise: the tests, and then the search. Assumes nothing.
 use borrow.Author.Needs.{needs}
 use native.Mathlib.Omega.{arith}
-use Rattle.scope.specs.Run.{Valid, ValidSource, cellsOf}
 use Rattle.scope.proofs.Judged.{Passes, fine, blamed, refuse-reply, grant-reply}
 use Rattle.hits.specs.Promise.{firstHitTests, FirstHitPromise}
 use mathlib.Core.Path.{ap, _∙_}

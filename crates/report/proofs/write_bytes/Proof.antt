@@ -1,6 +1,6 @@
 -- `report::write_bytes` meets its contract. The loop's invariant: the bytes are written but for those from place k on.
 -- The measure is what is left of them. Assumes nothing.
-use Prim.Native.Nat.{_≤_, _-_}
+use Prim.Native.Nat.{_-_}
 use native.Mathlib.Omega.{arith}
 use borrow.Author.Needs.{needs}
 use lib.ListN.{length, drop, drop-of-length-le}

@@ -1,12 +1,9 @@
 -- `report::write_line` meets its contract. The loop's invariant: after the word, the numbers are written but for those from place k on.
 -- The measure is what is left of them. Assumes nothing.
-use Prim.Native.Nat.{_≤_, _-_}
-use mathlib.Core.Path.{_≡_, refl, sym, ap, _∙_, subst}
-use native.Mathlib.Omega.{arith}
+use Prim.Native.Nat.{_-_}
+use mathlib.Core.Path.{_∙_}
 use borrow.Author.Needs.{needs}
-use lib.ListN.{length, drop}
-use Rattle.decimal.specs.Promises.{Written}
-use Rattle.text.specs.Form.{fields}
+use lib.ListN.{length}
 use Rattle.report.proofs.Writing.{Numbers, Spaced, writing-long, space-fits, space-written, number-fits, number-written, newline-fits, newline-written, word-fits, word-written, line-written}
 use Rattle.report.proofs.write_line.Statement.{statement}
 use Rattle.report.proofs.write_line.Tie as tie

@@ -2,7 +2,7 @@
 use mathlib.Core.Path.{_≡_, ap}
 use mathlib.Core.List.{_++_}
 use Rattle.scope.specs.Entry.{entriesOf}
-use Rattle.report.specs.Report.{mapReport, endReport, mapOf, cellsReport}
+use Rattle.report.specs.Report.{mapReport, endReport, cellsReport}
 use Rattle.report.proofs.Writing.{written-same, fits-same}
 use Rattle.report.proofs.Mapped.{map-is}
 use borrow.Author.Needs.{needs}

@@ -1,13 +1,13 @@
 -- `report::write_report` meets its contract: the four parts are the whole. Assumes nothing.
-use Prim.Native.Nat.{_+_, _-_, _≤_}
-use mathlib.Core.Path.{_≡_, refl, sym, ap, _∙_, subst}
+use Prim.Native.Nat.{_-_, _≤_}
+use mathlib.Core.Path.{refl, ap, _∙_}
 use mathlib.Core.List.{_++_}
 use native.Mathlib.Omega.{arith}
-use lib.ListN.{length, take}
+use lib.ListN.{take}
 use Rattle.scope.specs.Entry.{entriesOf}
 use Rattle.report.specs.Report.{zeros, runReport, srcReport, cellsReport, wholeReport}
 use Rattle.report.proofs.Mapped.{cleared-part}
-use Rattle.report.proofs.Writing.{Writing, writing-starts, writing-more, writing-last, piece-fits, last-fits, written-same}
+use Rattle.report.proofs.Writing.{Writing, writing-starts, writing-more, writing-last, piece-fits, last-fits}
 use borrow.Author.Needs.{needs}
 use Rattle.report.proofs.write_report.Statement.{statement}
 use Rattle.report.proofs.write_report.Tie as tie

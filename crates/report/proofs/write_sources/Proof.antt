@@ -1,7 +1,6 @@
 -- `report::write_sources` meets its contract. The loop's invariant: the lines of the sources before place k are written, and those from
 -- there on are within the limits. The measure is what is left of the list. Assumes nothing.
 use Prim.Native.Nat.{_-_}
-use native.Mathlib.Omega.{arith}
 use borrow.Author.Needs.{needs}
 use lib.ListN.{length}
 use Rattle.report.proofs.Writing.{writing-long}

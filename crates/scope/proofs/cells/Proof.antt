@@ -2,7 +2,7 @@
 use borrow.Author.Needs.{needs}
 use native.Mathlib.Omega.{arith}
 use mathlib.Core.Path.{ap}
-use Prim.Native.Nat.{ℕ, _*_, _≤_, _<_, _^_, _+_, _-_}
+use Prim.Native.Nat.{ℕ, _*_, _≤_, _+_, _-_}
 use native.Mathlib.Nat.{mul-le-mul}
 use Rattle.scope.specs.Run.{cellsOf, linesOf}
 use Rattle.scope.proofs.cells.Statement.{statement}

@@ -4,14 +4,14 @@ use borrow.Author.Needs.{needs}
 use borrow.Author.Tests.{eq-eqb, ne-eqb, lt-ltb, le-ltb}
 use native.Mathlib.Omega.{arith}
 use native.Mathlib.Numerals.{add-one}
-use mathlib.Core.Path.{_≡_, refl, sym, _∙_}
+use mathlib.Core.Path.{_≡_, refl, _∙_}
 use mathlib.Core.List.{List}
 use Prim.Native.Nat.{ℕ, suc, _≤_, _<_, _-_, _+_}
 use lib.ListN.{length, getD, drop, drop-of-length-le}
 use Rattle.scope.specs.Refusal.{complaint, number, weightTests}
 use Rattle.scope.specs.Reply.{verdict}
 use Rattle.scope.specs.declared.Verdict.the-variants.{Fine, Refused}
-use Rattle.scope.proofs.Judged.{Fails, Passes, broken, sound, first, then, both, source-fails, source-passes, no-tests, fine, blamed, refuse-verdict, grant-verdict}
+use Rattle.scope.proofs.Judged.{Fails, Passes, broken, sound, first, then, both, source-fails, no-tests, fine, blamed, refuse-verdict, grant-verdict}
 use Rattle.scope.specs.Entry.{entriesOf, entryTests, listTests}
 use Rattle.sources.proofs.Entries.{entry, entries-from}
 use Rattle.sources.proofs.judge_entries.Statement.{statement}

@@ -1,11 +1,10 @@
 -- `text::read_line` meets its contract. The loop's invariant: the word and k numbers are passed up to `next`, and the room has the numbers.
 -- The measure is what is left of the room. Assumes nothing.
 use Prim.Native.Nat.{_-_}
-use mathlib.Core.Path.{_≡_, refl, sym, subst}
-use mathlib.Core.List.{[], _∷_}
+use mathlib.Core.Path.{refl, subst}
 use native.Mathlib.Omega.{arith}
 use borrow.Author.Needs.{needs}
-use lib.ListN.{length, length-set}
+use lib.ListN.{length}
 use Rattle.text.specs.Inner.{WordAt, FieldAt}
 use Rattle.text.proofs.Lines.{Passing, no-word, passing-none, passing-more, passing-bad, passing-ends}
 use Rattle.text.proofs.read_line.Statement.{statement}

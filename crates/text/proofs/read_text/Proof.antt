@@ -1,6 +1,6 @@
 -- `text::read_text` meets its contract: its lines say what the text says, and the first test that this fails is the refusal. Assumes nothing.
 use Prim.Native.Nat.{_≤_, _<_}
-use mathlib.Core.Path.{_≡_, sym, ap, _∙_, subst}
+use mathlib.Core.Path.{_≡_, sym, _∙_, subst}
 use native.Mathlib.Omega.{arith}
 use borrow.Author.Needs.{needs}
 use borrow.Author.Tests.{lt-ltb, le-ltb}
@@ -8,7 +8,7 @@ use lib.Dec.{ltb}
 use lib.ListN.{length, take, replicate}
 use lib.Seq.{length-take-le}
 use Rattle.scope.specs.Run.{cellsOf}
-use Rattle.scope.specs.Refusal.{Tests, _when_, _andThen_, TooMany, number, runTests}
+use Rattle.scope.specs.Refusal.{_when_, _andThen_, TooMany, number, runTests}
 use Rattle.scope.proofs.Judged.{Passes, Fails, broken, sound, first, then, both, fine, blamed}
 use Rattle.scope.proofs.Limits.{valid-run}
 use Rattle.scope.specs.Entry.{entriesOf, listTests}

@@ -1,10 +1,8 @@
 -- `text::read_word` meets its contract. The loop's invariant: the first k bytes of the word stand at `at`, up to `next`.
 -- The measure is what is left of the word. Assumes nothing.
-use Prim.Native.Nat.{_≤_, _-_}
-use mathlib.Core.Path.{_≡_, refl, sym, ap, _∙_}
+use Prim.Native.Nat.{_-_}
 use native.Mathlib.Omega.{arith}
-use borrow.Author.Needs.{needs}
-use lib.ListN.{length, take, drop, getD}
+use lib.ListN.{length}
 use Rattle.text.proofs.Lines.{Begun, spelled-none, byte-more, byte-other, ends-there, word-whole}
 use Rattle.text.proofs.read_word.Statement.{statement}
 use Rattle.text.proofs.read_word.Tie as tie

@@ -1,17 +1,14 @@
 -- `vectors::find_basis` meets its contract: the division sequence is stopped, and `Found` says what stands there.
 -- Assumes nothing.
 use mathlib.Core.Path.{_≡_, sym, ap, subst, _∙_}
-use mathlib.Core.Bool.{true, false}
 use borrow.Author.Needs.{needs}
 use native.Mathlib.Omega.{arith}
-use lib.IntN.{ℤ, pos, negℤ, natAbs, _-ℤ_}
-use lib.Signed.{ltZ}
+use lib.IntN.{pos, negℤ, _-ℤ_}
 use mir.Syntax.{w64}
 use mir.Val.{SFits, toZ, ofZ}
 use mir.Facts.{toZ-ofZ}
 use Rattle.signed.proofs.Parts.{parts, apart, sum, neg-up, neg-dn}
-use Rattle.vectors.specs.Sequence.{Ready, Stopped, Open}
-use Rattle.vectors.proofs.Bridge.{leftward, rightward}
+use Rattle.vectors.specs.Sequence.{Stopped, Open}
 use Rattle.vectors.proofs.Found.{begin, first-two, single, pair-left, pair-right, partner-left}
 use Rattle.vectors.proofs.Sequence.{held-last}
 use Rattle.vectors.proofs.find_basis.Statement.{statement}

@@ -6,7 +6,7 @@ use native.Mathlib.Omega.{arith}
 use lib.IntN.{natAbs}
 use mir.Facts.{toZ-ofZ}
 use Rattle.vectors.specs.Sequence.{plusTimes}
-use Rattle.vectors.proofs.Sequence.{Fitting, fitting, reaches-partner, held-before}
+use Rattle.vectors.proofs.Sequence.{fitting, reaches-partner, held-before}
 use Rattle.vectors.proofs.partner.Statement.{statement}
 use Rattle.vectors.proofs.partner.Tie as tie
 

@@ -5,7 +5,7 @@ use mir.Syntax.{w64}
 use mir.Val.{SFits}
 use mir.Facts.{toZ-ofZ}
 use Rattle.signed.proofs.Parts.{parts}
-use Rattle.vectors.proofs.Sequence.{Fitting, fitting}
+use Rattle.vectors.proofs.Sequence.{fitting}
 use Rattle.vectors.proofs.plus_times.Statement.{statement}
 use Rattle.vectors.proofs.plus_times.Tie as tie
 

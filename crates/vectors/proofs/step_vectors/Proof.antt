@@ -6,7 +6,7 @@ use borrow.Author.Needs.{needs}
 use borrow.Author.Tests.{le-leb, lt-leb, lt-ltb, le-ltb}
 use native.Mathlib.Omega.{arith}
 use Rattle.scope.specs.Refusal.{Tests, _andThen_, complaint, number, windowTests, periodTests, sourceTests}
-use Rattle.scope.specs.Reply.{Said, refused, answered}
+use Rattle.scope.specs.Reply.{refused, answered}
 use Rattle.scope.proofs.Judged.{Fails, Passes, broken, sound, first, then, both, fine, blamed}
 use Rattle.scope.proofs.Limits.{passes-first, passes-then, valid-window, valid-source}
 use Rattle.vectors.specs.declared.Basis.{Basis}

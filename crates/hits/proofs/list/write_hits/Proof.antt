@@ -6,13 +6,13 @@
 use borrow.Author.Needs.{needs, scaled-fits}
 use native.Mathlib.Omega.{arith}
 use native.Mathlib.Nat.{mod-lt}
-use Prim.Native.Nat.{ℕ, _+_, _-_, _*_, _/_, _%_, _≤_, _<_, _^_}
-use mathlib.Core.Path.{_≡_, refl, sym, _∙_}
+use Prim.Native.Nat.{ℕ, _+_, _-_, _*_, _/_, _%_, _<_, _^_}
+use mathlib.Core.Path.{_≡_, refl, _∙_}
 use mathlib.Core.Logic.{⊎-elim}
 use mathlib.Core.List.{List}
-use lib.ListN.{length, length-set}
+use lib.ListN.{length}
 use mir.Syntax.{w64}
-use mir.Val.{ofZ, toZ}
+use mir.Val.{ofZ}
 use mir.Facts.{toZ-ofZ}
 use Rattle.scope.specs.declared.Run.{Run}
 use Rattle.scope.specs.declared.Source.{Source}
@@ -20,7 +20,7 @@ use Rattle.scope.specs.Run.{offsetOf}
 use Rattle.scope.proofs.Limits.{cells-few}
 use Rattle.hits.proofs.Walks.{fits-at}
 use Rattle.hits.proofs.Kept.{kept-start}
-use Rattle.hits.proofs.Lines.{Fixed, Running, Head, Inside, enter, within, beyond, walking, cell-in, cell-hit, offset-fits, write, leave, Ended, ran-out, filled, says-more, says-done, gets-on}
+use Rattle.hits.proofs.Lines.{Fixed, Head, Inside, enter, within, beyond, walking, cell-in, offset-fits, write, leave, Ended, ran-out, filled, says-more, says-done, gets-on}
 use Rattle.hits.proofs.list.write_hits.Statement.{statement}
 use Rattle.hits.proofs.list.write_hits.Tie as tie
 

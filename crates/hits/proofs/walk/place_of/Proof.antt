@@ -1,8 +1,8 @@
 -- `hits::walk::place_of` meets its contract. Assumes nothing.
 use borrow.Author.Needs.{needs}
 use native.Mathlib.Omega.{arith}
-use native.Mathlib.Nat.{mod-lt, mod-le}
-use Prim.Native.Nat.{_/_, _%_}
+use native.Mathlib.Nat.{mod-le}
+use Prim.Native.Nat.{_/_}
 use mathlib.Core.Path.{_∙_}
 use mir.Facts.{toZ-ofZ}
 use Rattle.scope.proofs.Limits.{cells-few}

@@ -1,6 +1,5 @@
 -- `hits::walk::Walk::next` meets its contract: each of its three ways is a case of proposition 2. Assumes nothing.
-use native.Mathlib.Omega.{arith}
-use Rattle.hits.proofs.Walks.{small, movable-left, movable-right, movable-both, one-small, two-small, step-left, step-right, step-both}
+use Rattle.hits.proofs.Walks.{movable-left, movable-right, movable-both, one-small, two-small, step-left, step-right, step-both}
 use Rattle.hits.proofs.walk.Walk.next.Statement.{statement}
 use Rattle.hits.proofs.walk.Walk.next.Tie as tie
 
