@@ -14,7 +14,7 @@ use Rattle.hits.specs.declared.walk.Step.{Step}
 use Rattle.hits.specs.declared.walk.Place.{Place}
 use Rattle.hits.specs.declared.walk.Walk.{Walk}
 
--- A vector that is short enough to be a step: it leads on, and its offset is less than the window.
+-- A vector that is short enough to be a step: it leads on, and its offset is no more than the window's width.
 pub record Small (v : Vector) (window : ℕ) : Type 0 where
   pub wide : window ≤ 4096
   pub few : v .line ≤ 2147483647

@@ -3,7 +3,7 @@
 use scope::Run;
 use scope::Source;
 ghost use mathlib.Core.Path.{_≡_};
-ghost use Prim.Native.Nat.{ℕ, _+_, _-_, _*_, _/_, _%_, _≤_, _<_, max};
+ghost use Prim.Native.Nat.{ℕ, _+_, _-_, _*_, _%_, _≤_, _<_, max};
 ghost use Rattle.lattice.proofs.Multiples.{Above};
 ghost use Rattle.scope.specs.Run.{Valid, ValidSource, cellsOf};
 ghost use Rattle.scope.proofs.Hits.{origin};
@@ -131,7 +131,7 @@ fn find_from_line(run: Run, source: Source, line: u64) -> u64
     };
     let at = Point {
         distance: distance(run, source, line),
-        line: line,
+        line,
     };
     match seek(stage, at, window, run.last as u64) {
         Found::At(to) => (to.line - run.first as u64) * window + to.distance,

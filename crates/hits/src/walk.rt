@@ -1,11 +1,11 @@
 // The walk of a source over a run: from the first hit of a line to the first hit of the next line that has one.
-// What it goes by is worked out once; a step is then two comparisons and two or four sums.
+// What it goes by is worked out once; a step is then one or two comparisons and two or four sums.
 use scope::Run;
 use scope::Source;
 use vectors::Basis;
 use vectors::Vector;
 ghost use mathlib.Core.Path.{_≡_};
-ghost use Prim.Native.Nat.{_+_, _-_, _*_, _/_, _%_, _≤_, _<_, _^_, min};
+ghost use Prim.Native.Nat.{_*_, _/_, _≤_, _<_, _^_, min};
 ghost use lib.IntN.{pos, _+ℤ_, _-ℤ_};
 ghost use Rattle.scope.specs.Run.{Valid, ValidSource, cellsOf};
 ghost use Rattle.hits.specs.Walk.{Small, GoesBy, Begins, Leads, Movable, Moved, Walking, Walks};
@@ -22,13 +22,14 @@ pub struct Place {
     pub cell: u64,
 }
 
-// What the walk goes by: the steps (α, β) and (γ, δ), and from where and up to where each stays in the window.
+// What the walk goes by: the steps (α, β) and (γ, δ), and from where and up to where each stays among the first hits of lines.
+// These lie in a window that begins at A = -I/2 and is as wide as the run's, or as the period where that is less.
 pub struct Walk {
     pub left: Step,
     pub right: Step,
-    // A - α: from this offset on the step to the left stays in the window
+    // A - α: from this offset on the step to the left stays in it
     pub low: i64,
-    // A + I - γ: below this offset the step to the right does
+    // A + width - γ: below this offset the step to the right does
     pub high: i64,
 }
 

@@ -22,7 +22,7 @@ pub enum Added {
     Refused(u8),
 }
 
-// Maps longer than this are gone through in blocks.
+// Maps longer than this are gone through in blocks by the sources with short periods.
 const LONG: usize = 1048576;
 // So many bytes of the map are in a block.
 const BLOCK: u32 = 65536;

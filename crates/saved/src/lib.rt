@@ -3,7 +3,7 @@
 use scope::Run;
 use scope::Verdict;
 ghost use mathlib.Core.Path.{_≡_};
-ghost use Prim.Native.Nat.{min, _+_, _-_, _*_, _/_, _≤_, _<_, _^_};
+ghost use Prim.Native.Nat.{min, _+_, _*_, _≤_, _<_, _^_};
 ghost use lib.ListN.{length, take, drop, replicate};
 ghost use Rattle.scope.specs.Refusal.{complaint};
 ghost use Rattle.scope.specs.Reply.{verdict, reply};
@@ -185,8 +185,9 @@ pub fn write_cells(map: &[u8], room: &mut [u8])
     }
 }
 
-// Saves a run's map in a file room of the exact length: done, or refused with the room as it was.
-// Every test comes before the first byte is written, and then every byte is.
+// Public operation. Saves a run's map in a file room of the exact length: done, or refused with the room as it was.
+// Refused, in this order: 1, 2, 3 for the run, 9 for a map or a room not of the exact length. Every test comes before the first
+// byte is written, and then every byte is.
 pub fn save(run: Run, map: &[u8], file: &mut [u8]) -> Saved
     ensures { λ r. ⌜ SavePromise run (now (map .entry)) (now (file .entry)) r (now (file .exit)) ⌝ }
 {
@@ -301,8 +302,9 @@ pub fn load(file: &[u8], map: &mut [u8])
     }
 }
 
-// Reads a file: its run, with a map of the exact length filled, or refused with the map as it was.
-// Every test, of the last block too, comes before the first cell is filled.
+// Public operation. Reads a file: its run, with a map of the exact length filled, or refused with the map as it was.
+// Refused, in this order: 13 for whole blocks, 14 and 15 for block 0, 1, 2, 3 for its run, 13 for the count, 14 and 15 for each
+// other block, 9 for the map's length. Every test, of the last block too, comes before the first cell is filled.
 pub fn read(file: &[u8], map: &mut [u8]) -> Loaded
     ensures { λ r. ⌜ ReadPromise (now (file .entry)) (now (map .entry)) r (now (map .exit)) ⌝ }
 {
