@@ -6,9 +6,10 @@ use Prim.Native.Nat.{ℕ, zero, suc, _<_}
 use native.Mathlib.Omega.{arith}
 use mathlib.Core.Path.{_≡_, refl, sym, ap, _∙_, subst}
 use mathlib.Core.Logic.{_↔_, Iff·trans, _⊎_, inl, inr}
-use mathlib.Core.List.{List, [], _∷_}
+use mathlib.Core.List.{List, [], _∷_, _++_}
 use mathlib.Core.Option.{Option, some, none}
-use lib.ListN.{length, getD}
+use lib.ListN.{length, getD, take}
+use lib.Seq.{take-at}
 use Rattle.scope.specs.declared.Run.{Run}
 use Rattle.scope.specs.declared.Source.{Source}
 use Rattle.scope.specs.declared.RunCell.{RunCell}
@@ -34,10 +35,14 @@ use Rattle.saved.specs.Promise.{saidOfSaving, saidOfReading, SavePromise, ReadP
 use Rattle.text.specs.declared.Answer.{Answer}
 use Rattle.text.specs.declared.Answer.the-variants.{Read, Refused}
 use Rattle.text.specs.declared.Input.{Input}
-use Rattle.text.specs.Form.{Content}
+use Rattle.text.specs.Form.{line, Content}
 use Rattle.text.specs.Promise.{Reads, replyTo, handed, padded, refusal, says as saysText, TextPromise}
+use Rattle.text.proofs.Lines.{line-split}
 use Rattle.text.proofs.Unique.{says-unique}
+use Rattle.report.specs.declared.Output.{Output}
+use Rattle.report.specs.Report.{refusedWord, runReport, wholeReport, printed, reportOf, ReportPromise}
 use Rattle.demands.specs.Table.{_given_, Says, BadPeriod, BadWeight, AtFault, vectorsTable, firstHitTable, listingTable, sourcesTable, mapTable, savingTable, readingTable, contentTable, SaysOfText}
+use Rattle.demands.specs.Texts.{printedBy}
 use Rattle.demands.proofs.Rendered.{exactly, keeps}
 use Rattle.demands.proofs.Rows.{vectors-rows, first-hit-rows, listing-rows, map-rows, saving-rows, reading-rows, content-rows}
 
@@ -103,27 +108,28 @@ module _ (file map : List ℕ) (answer : Loaded) (after : List ℕ) (h : ReadPro
 
 -- ---- reading a text
 
+-- What is to be replied to a text is "refused n" exactly when the table of the text says n.
+reply-refused : (text : List ℕ) (o : Option Content) → Reads text o → (n : ℕ) → (replyTo o ≡ refused n) ↔ SaysOfText text n
+unfolding number
+reply-refused text none r n = (λ k. inl (cc, r), back)
+  where
+    back : SaysOfText text n → replyTo none ≡ refused n
+    back (inl k) = ap refused (k .0)
+    back (inr k) = absurd (r (k .0) (k .1))
+reply-refused text (some content) r n = (λ k. inr (content, r, told .0 k), back)
+  where
+    told : (replyTo (some content) ≡ refused n) ↔ Says (contentTable content) n
+    told = exactly (content-rows content) (content .run) (replyTo (some content)) refl n
+
+    back : SaysOfText text n → replyTo (some content) ≡ refused n
+    back (inl k) = absurd (k .1 content r)
+    back (inr k) = told .1 (subst (λ c. Says (contentTable c) n) (says-unique (k .1) r) (k .2))
+
 module _ (text : List ℕ) (input : Input) (h : TextPromise text input) where
   -- A reply to a text reads "refused n" exactly when its table says n: 11 exactly when the text has not the form, else what the
   -- table says of the run and the sources in it.
   pub text-refused : (n : ℕ) → (saysText (input .answer) ≡ refused n) ↔ SaysOfText text n
-  unfolding number
-  text-refused n = go (h .content) (h .reads) (h .replies)
-    where
-      go : (o : Option Content) → Reads text o → saysText (input .answer) ≡ replyTo o → (saysText (input .answer) ≡ refused n) ↔ SaysOfText text n
-      go none r e = (λ k. inl (cc, r), back)
-        where
-          back : SaysOfText text n → saysText (input .answer) ≡ refused n
-          back (inl k) = e ∙ ap refused (k .0)
-          back (inr k) = absurd (r (k .0) (k .1))
-      go (some content) r e = (λ k. inr (content, r, told .0 k), back)
-        where
-          told : (saysText (input .answer) ≡ refused n) ↔ Says (contentTable content) n
-          told = exactly (content-rows content) (content .run) (saysText (input .answer)) e n
-
-          back : SaysOfText text n → saysText (input .answer) ≡ refused n
-          back (inl k) = absurd (k .1 content r)
-          back (inr k) = told .1 (subst (λ c. Says (contentTable c) n) (says-unique (k .1) r) (k .2))
+  text-refused n = rw (h .replies) (reply-refused text (h .content) (h .reads) n)
 
   -- "A refused call answers with the number alone": no source goes with it.
   pub text-refused-alone : (n : ℕ) → saysText (input .answer) ≡ refused n → input ≡ refusal n
@@ -143,6 +149,27 @@ module _ (text : List ℕ) (input : Input) (h : TextPromise text input) where
       refuses : (answer : Answer) → saysText answer ≡ refused n → answer ≡ Refused n
       refuses (Read run) e = cc
       refuses (Refused m) e = cc
+
+-- ---- the report on a text
+
+-- One line `refused n` is printed for a refusal with the number n, and for nothing else: a whole report begins with `ru`, and
+-- numbers that are written the same are the same.
+printed-refused : (said : Said Run) (entries : List Entry) (n : ℕ) → (printed said entries ≡ line refusedWord (n ∷ [])) ↔ (said ≡ refused n)
+unfolding printed wholeReport runReport line
+printed-refused (refused m) entries n = (λ e. ap (λ l. refused (getD l 0 0)) (same e), λ e. cc)
+  where
+    same : line refusedWord (m ∷ []) ≡ line refusedWord (n ∷ []) → m ∷ [] ≡ n ∷ []
+    same e = line-split refusedWord (m ∷ []) (n ∷ []) [] [] (ap (λ l. l ++ []) e) .0
+printed-refused (answered run) entries n = (λ e. absurd (let z : _≡_ {A = ℕ} 117 101 = ap (λ l. getD l 1 0) e in omega arith), λ e. absurd (let z : _≡_ {A = ℕ} 0 1 = cc in omega arith))
+
+-- What is printed of a text is the line `refused n`, "and nothing more", exactly when the table of the text says n. (Nothing is
+-- lent.)
+pub report-refused : (text : List ℕ) (output : Output) → ReportPromise text output → (n : ℕ) → (printedBy output ≡ line refusedWord (n ∷ [])) ↔ SaysOfText text n
+unfolding reportOf
+report-refused text output h n =
+    let bytes = reportOf (h .content) in
+    let is : printedBy output ≡ bytes = ap (take (output .length)) (h .holds .begins) ∙ take-at bytes _ (output .length) (sym (h .holds .counts)) in
+    rw is (Iff·trans (printed-refused (replyTo (h .content)) (handed (h .content)) n) (reply-refused text (h .content) (h .reads) n))
 
 -- ---- a list of sources at fault
 

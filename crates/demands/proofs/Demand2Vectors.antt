@@ -9,7 +9,9 @@ use lib.IntN.{ℤ, pos, negℤ, natAbs, _+ℤ_, _-ℤ_, _*ℤ_}
 use lib.Signed.{_≤ℤ_, _<ℤ_}
 use borrow.Author.Tests.{lt-leb, le-ltb, ne-eqb}
 use Rattle.lattice.specs.Gcd.{IsGcd}
-use Rattle.lattice.proofs.Gcd.{gcd-unique}
+use Rattle.lattice.proofs.Stage.{ended}
+use Rattle.lattice.proofs.Gcd.{gcd-unique, last-gcd}
+use Rattle.lattice.proofs.Pair.{reach}
 use Rattle.lattice.proofs.Differences.{go-mod}
 use Rattle.signed.proofs.Parts.{parts, up, dn, sum, neg-up, neg-dn}
 use Rattle.scope.specs.declared.Run.{Run}
@@ -38,6 +40,14 @@ unfolding vectorsTests periodTests
 accepted {p} {r} {I} a =
     both (both (both (valid-window-passes (record { even = a .even; narrow = a .narrow; wide = a .wide }))
     (both (sound (ne-eqb p 0 (λ e. omega arith))) (sound (le-ltb 2147483647 p (a .period))))) (sound (lt-leb p r (a .remainder)))) (sound (le-ltb p I (a .fits)))
+
+-- A remainder below the period has a greatest common divisor with it (`gcd-unique`: one only), so that what is said of it below
+-- is said for each remainder and period. It is where the division sequence comes below 1, which is 0.
+pub gcd-exists : (r p : ℕ) → r < p → (g : ℕ) × IsGcd g r p
+gcd-exists r p low =
+    let end = reach {W = 1} low (omega arith) (omega arith) in
+    let below = end .below in
+    (end .n, last-gcd (ended (end .stage) (omega arith)))
 
 single-is : {p r I g : ℕ} {v : Vector} → IsGcd g r p → IsSingle p r I v ↔ ((I ≤ g) × (v ≡ record { offset = pos 0; line = p / g }))
 single-is {p} {r} {I} {g} {v} is = (to, from)

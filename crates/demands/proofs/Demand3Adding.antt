@@ -212,7 +212,7 @@ blocks-add {run} {blocks} {sources} {maps} {calls} h =
 pub same-cells : {run : Run} {sources : List Entry} {blocks other : List Run} {maps maps′ : List (List ℕ)} {calls calls′ : List Call} → History run blocks sources maps calls → History run other sources maps′ calls′ → together maps ≡ together maps′ → together (leave maps calls) ≡ together (leave maps′ calls′)
 same-cells {run} {sources} h h′ e = blocks-add h .whole ∙ ap (added 255 run sources) e ∙ sym (blocks-add h′ .whole)
 
--- ---- there are such histories: block after block, each with all sources in one call
+-- ---- there is such a history: block after block, from the last one down, each with all sources in one call
 
 -- A call on the maps as they are, with the outcome that its promise admits.
 abbrev call-on : Run → List Run → List Entry → List (List ℕ) → ℕ → Call
@@ -254,7 +254,9 @@ keep-each run blocks valid sources w (suc n) maps h state =
       keep-each run blocks valid sources w n (set maps n (call .after)) (omega arith) (next-state run blocks valid call maps state (omega arith) refl),
     )
 
--- Such a history exists for every valid run, every cut of it, all sources within the limits and all maps of the exact length.
+-- For every valid run, every cut of it, all sources within the limits and all maps of bytes of the exact length there is one
+-- history at least, the one above: it shows that the theorems over histories are not empty, and no more. That other orders, with
+-- the sources spread over more calls, add up too is what `blocks-add` says of every history.
 pub some-history : {run : Run} {blocks : List Run} {sources : List Entry} {maps : List (List ℕ)} → Valid run → Cut run blocks → AllValid 255 sources → Maps blocks maps → ((k : ℕ) → Within 255 (getD maps k [])) → History run blocks sources maps (calls-on run blocks sources maps (length blocks))
 some-history {run} {blocks} {sources} {maps} v cut w sized bytes =
     let valid = valid-at run v blocks cut in

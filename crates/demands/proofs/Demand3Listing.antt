@@ -21,7 +21,7 @@ use Rattle.hits.specs.declared.Listing.{Listing}
 use Rattle.hits.specs.declared.Listing.the-variants.{Done, More, Refused}
 use Rattle.hits.specs.Promise.{ListingPromise}
 use Rattle.demands.specs.Cut.{Cut}
-use Rattle.demands.specs.Listing.{Chain, callsOf, Lends, Answered, Listings, joined, InOrder, EveryHitOnce}
+use Rattle.demands.specs.Listing.{Chain, callsOf, Lends, Answered, Listings, LendsEach, joined, InOrder, EveryHitOnce}
 use Rattle.demands.proofs.Chains.{chain-lists, few-calls, goes-inside, not-refused, chain-exists}
 use Rattle.demands.proofs.Cuts.{cut-valid}
 use Rattle.demands.proofs.CutHits.{blockHits, cut-hits}
@@ -106,10 +106,13 @@ call-answered block source v w start inside room lent (Done n) after h = tt
 call-answered block source v w start inside room lent (More n next) after h = goes-inside h
 call-answered block source v w start inside room lent (Refused n) after h = not-refused v w start inside room lent (Refused n) after h n refl
 
--- And so there are lists for every cut of a valid run, whatever rooms are lent.
-pub listings-exist : (run : Run) (source : Source) → Valid run → ValidSource source → (blocks : List Run) → Cut run blocks → (rooms : Run → ℕ → List ℕ) → ((block : Run) (k : ℕ) → 1 ≤ length (rooms block k)) → Listings source blocks
+-- And so there are lists for every cut of a valid run, whatever rooms above nothing: to each block's calls its own supply is lent.
+pub listings-exist : (run : Run) (source : Source) → Valid run → ValidSource source → (blocks : List Run) → Cut run blocks → (rooms : Run → ℕ → List ℕ) → ((block : Run) (k : ℕ) → 1 ≤ length (rooms block k)) → (lists : Listings source blocks) × LendsEach rooms source blocks lists
 listings-exist run source v w blocks cut rooms above = each blocks (λ block m. cut-valid run v blocks cut block m .valid)
   where
-    each : (some : List Run) → ((block : Run) → List·Memᴰ block some → Valid block) → Listings source some
-    each [] f = tt
-    each (block ∷ rest) f = (listing-exists block source (f block (List·Memᴰ·head refl)) w (rooms block) (above block) .0, each rest (λ b m. f b (List·Memᴰ·tail m)))
+    each : (some : List Run) → ((block : Run) → List·Memᴰ block some → Valid block) → (lists : Listings source some) × LendsEach rooms source some lists
+    each [] f = (tt, tt)
+    each (block ∷ rest) f =
+        let here = listing-exists block source (f block (List·Memᴰ·head refl)) w (rooms block) (above block) in
+        let more = each rest (λ b m. f b (List·Memᴰ·tail m)) in
+        ((here .0, more .0), (here .1, more .1))

@@ -1,6 +1,6 @@
 -- Document 01, "How much each promise says": "For every input, refusals too, each public operation's promise determines the
--- reply and every lent cell afterwards. That no second reply fits is proved". One theorem for each public operation; each
--- cites the one of the operation's own crate. There is no exception. Assumes nothing.
+-- reply and every lent cell afterwards. That no second reply fits is proved". One theorem for each of the eight public
+-- operations; each cites the one of the operation's own crate. There is no exception. Assumes nothing.
 use Prim.Native.Nat.{ℕ}
 use mathlib.Core.Path.{_≡_}
 use mathlib.Core.List.{List}
@@ -24,6 +24,9 @@ use Rattle.saved.proofs.RoundTrips.{one-saving, one-reading}
 use Rattle.text.specs.declared.Input.{Input}
 use Rattle.text.specs.Promise.{TextPromise}
 use Rattle.text.proofs.Unique.{text-unique}
+use Rattle.report.specs.declared.Output.{Output}
+use Rattle.report.specs.Report.{ReportPromise}
+use Rattle.report.proofs.Unique.{report-unique}
 
 -- The vectors call: one reply.
 pub vectors-once : (p r I : ℕ) (a b : Steps) → VectorsPromise p r I a → VectorsPromise p r I b → a ≡ b
@@ -52,3 +55,7 @@ reading-once file map a b after after′ = one-reading
 -- Reading a text: one reply with its run and sources.
 pub text-once : (text : List ℕ) (a b : Input) → TextPromise text a → TextPromise text b → a ≡ b
 text-once = text-unique
+
+-- The report on a text: one output, both its count and its bytes.
+pub report-once : (text : List ℕ) (a b : Output) → ReportPromise text a → ReportPromise text b → a ≡ b
+report-once = report-unique

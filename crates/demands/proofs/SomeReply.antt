@@ -1,5 +1,6 @@
--- For every input some reply fits each promise, so that the theorems over the promises are not empty. (That the program's own
--- reply fits is what the check of each operation says.) Assumes nothing.
+-- For every input of the six operations below some reply fits the promise, so that the theorems over these promises are not
+-- empty. For the text and the report there is no such theorem here: there the outcome that fits is that of the proved function
+-- itself. (That the program's own reply fits is what the check of each of the eight operations says.) Assumes nothing.
 use Prim.Native.Nat.{ℕ}
 use mathlib.Core.Path.{_≡_, refl}
 use mathlib.Core.Logic.{_⊎_, inl, inr}

@@ -47,6 +47,11 @@ abbrev pub Listings : Source → List Run → Type 0
 Listings source [] = Unit {0}
 Listings source (block ∷ blocks) = Chain block source (record { 0 = 0 }) × Listings source blocks
 
+-- The rooms of each block's chain are those of the block's own supply.
+abbrev pub LendsEach : (Run → ℕ → List ℕ) → (source : Source) (blocks : List Run) → Listings source blocks → Type 0
+LendsEach rooms source [] lists = Unit {0}
+LendsEach rooms source (block ∷ blocks) lists = Lends (rooms block) (lists .0) × LendsEach rooms source blocks (lists .1)
+
 -- "Joined in line order", each list moved from its block's cells into the run's.
 abbrev pub joined : (run : Run) (source : Source) (blocks : List Run) → Listings source blocks → List ℕ
 joined run source [] lists = []

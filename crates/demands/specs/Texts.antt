@@ -1,9 +1,11 @@
--- Document 01, "The list program": what a text that is accepted says.
-use Prim.Native.Nat.{_≤_}
-use lib.ListN.{length}
+-- Document 01, "The list program": what a text that is accepted says, and what is printed.
+use Prim.Native.Nat.{ℕ, _≤_}
+use mathlib.Core.List.{List}
+use lib.ListN.{length, take}
 use Rattle.scope.specs.Run.{Valid, cellsOf}
 use Rattle.sources.specs.Lists.{AllValid}
 use Rattle.text.specs.Form.{Content}
+use Rattle.report.specs.declared.Output.{Output}
 
 -- A run and sources within the limits: those of the table of ranges, and 12's "more than 64 sources, or a run of more than
 -- 65,536 cells" kept.
@@ -12,3 +14,7 @@ pub record Listable (content : Content) : Type 0 where
   pub within : AllValid 255 (content .entries)
   pub sources : length (content .entries) ≤ 64
   pub cells : cellsOf (content .run) ≤ 65536
+
+-- What an output prints: of its bytes as many as it counts.
+abbrev pub printedBy : Output → List ℕ
+printedBy output = take (output .length) (output .bytes)

@@ -1,3 +1,4 @@
 // The customer's demands, as theorems over the promises of the calls: laws only, no function.
-// specs/ has the few words that the demands add to document 01's; proofs/ has a file for each demand, and one that says
-// of every public operation that no second reply fits.
+// The public operations are eight: the step vectors, the first hit, the listing, the map, saving, reading, the text, the report.
+// specs/ has the few words that the demands add to document 01's; proofs/ has a file for each demand, or for each part of
+// one, and one that says of all eight operations that no second reply fits.

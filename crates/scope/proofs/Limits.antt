@@ -4,16 +4,14 @@
 use Prim.Native.Nat.{ℕ, _+_, _/_, _%_, _^_, _≤_, _<_}
 use native.Mathlib.Nat.{mul-le-mul, le-mul-of-pos-right}
 use native.Mathlib.Omega.{arith}
-use mathlib.Core.Path.{_≡_, refl, sym, ap, _∙_, subst}
-use mathlib.Core.Logic.{_↔_}
+use mathlib.Core.Path.{_≡_, refl}
 use mathlib.Core.Bool.{Bool, true, false, cond}
-use mathlib.Core.List.{List, [], _∷_, _++_, map}
 use mathlib.Core.Option.{Option, some, none}
 use borrow.Author.Tests.{ltb-false, le-ltb, eqb-false, ne-eqb}
 use Rattle.scope.specs.declared.Run.{Run}
 use Rattle.scope.specs.declared.Source.{Source}
 use Rattle.scope.specs.Run.{Valid, ValidSource, linesOf, cellsOf}
-use Rattle.scope.specs.Refusal.{Reason, call, listed, Complaint, Tests, _when_, _andThen_, ofSource, nothing, orElse, placed, complaint, windowTests, lineTests, runTests, periodTests, sourceTests}
+use Rattle.scope.specs.Refusal.{Reason, Complaint, Tests, _when_, _andThen_, ofSource, orElse, placed, complaint, windowTests, lineTests, runTests, periodTests, sourceTests}
 use Rattle.scope.proofs.Judged.{Passes, sound, both}
 
 -- ---- what tests that pass tell

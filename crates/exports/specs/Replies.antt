@@ -1,0 +1,80 @@
+-- The numbers that tell each operation's reply. A refusal has its number and zeros beside it; any other reply has 0 for the refusal.
+use Prim.Native.Nat.{ℕ}
+use lib.IntN.{pos}
+use Rattle.scope.specs.declared.Run.{Run}
+use Rattle.scope.specs.declared.Source.{Source}
+use Rattle.scope.specs.declared.RunCell.{RunCell}
+use Rattle.vectors.specs.declared.Steps.{Steps}
+use Rattle.vectors.specs.declared.Steps.the-variants.{Pair, Single, Refused as Refused·steps}
+use Rattle.hits.specs.declared.FirstHit.{FirstHit}
+use Rattle.hits.specs.declared.FirstHit.the-variants.{At, Nothing, Refused as Refused·first}
+use Rattle.hits.specs.declared.Listing.{Listing}
+use Rattle.hits.specs.declared.Listing.the-variants.{Done as Done·listing, More, Refused as Refused·listing}
+use Rattle.map.specs.declared.Added.{Added}
+use Rattle.map.specs.declared.Added.the-variants.{Done as Done·added, Refused as Refused·added}
+use Rattle.saved.specs.declared.Saved.{Saved}
+use Rattle.saved.specs.declared.Saved.the-variants.{Done as Done·saved, Refused as Refused·saved}
+use Rattle.saved.specs.declared.Loaded.{Loaded}
+use Rattle.saved.specs.declared.Loaded.the-variants.{Of, Refused as Refused·loaded}
+use Rattle.text.specs.declared.Answer.{Answer}
+use Rattle.text.specs.declared.Answer.the-variants.{Read, Refused as Refused·text}
+use Rattle.text.specs.declared.Input.{Input}
+use Rattle.exports.specs.declared.StepsReply.{StepsReply}
+use Rattle.exports.specs.declared.FirstHitReply.{FirstHitReply}
+use Rattle.exports.specs.declared.ListingReply.{ListingReply}
+use Rattle.exports.specs.declared.RunReply.{RunReply}
+use Rattle.exports.specs.declared.TextReply.{TextReply}
+
+-- A run of its four numbers.
+abbrev pub runOf : ℕ → ℕ → ℕ → ℕ → Run
+runOf window interval first last = record { window = window; interval = interval; first = first; last = last }
+
+-- The source with a period.
+abbrev pub sourceOf : ℕ → Source
+sourceOf period = record { period = period }
+
+-- The cell with a number.
+abbrev pub cellOf : ℕ → RunCell
+cellOf x = record { 0 = x }
+
+-- The step vectors: a pair is two vectors, the one that leads left first, and a single vector is one.
+abbrev pub tellSteps : Steps → StepsReply
+tellSteps (Pair left right) = record { refusal = 0; vectors = 2; alpha = left .offset; beta = left .line; gamma = right .offset; delta = right .line }
+tellSteps (Single only) = record { refusal = 0; vectors = 1; alpha = only .offset; beta = only .line; gamma = pos 0; delta = 0 }
+tellSteps (Refused·steps number) = record { refusal = number; vectors = 0; alpha = pos 0; beta = 0; gamma = pos 0; delta = 0 }
+
+-- The first hit: whether there is one, and its cell.
+abbrev pub tellFirst : FirstHit → FirstHitReply
+tellFirst (At cell) = record { refusal = 0; found = 1; cell = cell .0 }
+tellFirst Nothing = record { refusal = 0; found = 0; cell = 0 }
+tellFirst (Refused·first number) = record { refusal = number; found = 0; cell = 0 }
+
+-- The listing: how many hits were written, whether one is left, and that one.
+abbrev pub tellListing : Listing → ListingReply
+tellListing (Done·listing n) = record { refusal = 0; more = 0; count = n; next = 0 }
+tellListing (More n cell) = record { refusal = 0; more = 1; count = n; next = cell .0 }
+tellListing (Refused·listing number) = record { refusal = number; more = 0; count = 0; next = 0 }
+
+-- Adding to a map: the refusal's number alone.
+abbrev pub tellAdded : Added → ℕ
+tellAdded Done·added = 0
+tellAdded (Refused·added number) = number
+
+-- Saving: the same.
+abbrev pub tellSaved : Saved → ℕ
+tellSaved Done·saved = 0
+tellSaved (Refused·saved number) = number
+
+-- Reading a file: the run.
+abbrev pub tellLoaded : Loaded → RunReply
+tellLoaded (Of run) = record { refusal = 0; window = run .window; interval = run .interval; first = run .first; last = run .last }
+tellLoaded (Refused·loaded number) = record { refusal = number; window = 0; interval = 0; first = 0; last = 0 }
+
+-- Reading a text: the run, as from a file.
+abbrev pub tellAnswer : Answer → RunReply
+tellAnswer (Read run) = tellLoaded (Of run)
+tellAnswer (Refused·text number) = tellLoaded (Refused·loaded number)
+
+-- The same, and the sources.
+abbrev pub tellText : Input → TextReply
+tellText input = record { run = tellAnswer (input .answer); count = input .count; periods = input .periods; weights = input .weights }

@@ -1,0 +1,351 @@
+//! Document 01 once more, written from its text and not from the library's code: every cell is looked at,
+//! every number is an i128, and nothing is fast. An answer is `Ok`, a refusal `Err` with its number.
+
+#[derive(Clone, Copy, Debug, PartialEq, Eq)]
+pub struct Run {
+    pub window: i128,
+    pub interval: i128,
+    pub first: i128,
+    pub last: i128,
+}
+
+type Reply<T> = Result<T, u8>;
+
+/// "Given when": the number, if this is so.
+fn refuse_if(wrong: bool, number: u8) -> Reply<()> {
+    if wrong {
+        Err(number)
+    } else {
+        Ok(())
+    }
+}
+
+fn judge_window(window: i128) -> Reply<()> {
+    refuse_if(window % 2 != 0 || !(2..=4096).contains(&window), 1)
+}
+
+fn judge_period(period: i128) -> Reply<()> {
+    refuse_if(period == 0 || period > 2_147_483_647, 4)
+}
+
+fn judge_weight(weight: i128) -> Reply<()> {
+    refuse_if(weight == 0 || weight > 255, 7)
+}
+
+impl Run {
+    fn judge(&self) -> Reply<()> {
+        judge_window(self.window)?;
+        let broken = self.first < 1 || self.last < self.first || self.last > 16_777_216;
+        refuse_if(broken, 2)?;
+        refuse_if(self.interval == 0, 3)
+    }
+
+    pub fn cells(&self) -> i128 {
+        self.window * (self.last - self.first + 1)
+    }
+
+    /// "Source p hits cell (i, j) exactly when p divides T·j - i", of the cell with number x.
+    pub fn is_hit(&self, period: i128, x: i128) -> bool {
+        let line = self.first + x / self.window;
+        let offset = x % self.window - self.window / 2;
+        (self.interval * line - offset) % period == 0
+    }
+
+    /// All hit cells, in rising order: a walk over all cells.
+    pub fn hits(&self, period: i128) -> Vec<i128> {
+        (0..self.cells())
+            .filter(|&x| self.is_hit(period, x))
+            .collect()
+    }
+
+    /// The same for long runs: on each line, the first offset that is hit, and from there in steps of p.
+    pub fn hits_by_line(&self, period: i128) -> Vec<i128> {
+        let mut hits = Vec::new();
+        for line in self.first..=self.last {
+            let left = -self.window / 2;
+            let base = (line - self.first) * self.window;
+            let mut distance = (self.interval * line - left).rem_euclid(period);
+            while distance < self.window {
+                hits.push(base + distance);
+                distance += period;
+            }
+        }
+        hits
+    }
+}
+
+fn gcd(a: i128, b: i128) -> i128 {
+    if b == 0 {
+        a
+    } else {
+        gcd(b, a % b)
+    }
+}
+
+#[derive(Clone, Copy, Debug, PartialEq, Eq)]
+pub enum Steps {
+    Pair((i128, i128), (i128, i128)),
+    Single((i128, i128)),
+}
+
+fn judge_vectors(p: i128, r: i128, window: i128) -> Reply<()> {
+    judge_window(window)?;
+    judge_period(p)?;
+    refuse_if(r >= p, 5)?;
+    refuse_if(window > p, 6)
+}
+
+/// "Both lie in the lattice, β > 0, δ > 0, -I < α ≤ 0 ≤ γ < I, γ - α ≥ I, and β·γ - α·δ = p."
+pub fn is_pair(p: i128, r: i128, window: i128, left: (i128, i128), right: (i128, i128)) -> bool {
+    let ((alpha, beta), (gamma, delta)) = (left, right);
+    (alpha - r * beta) % p == 0
+        && (gamma - r * delta) % p == 0
+        && beta > 0
+        && delta > 0
+        && -window < alpha
+        && alpha <= 0
+        && 0 <= gamma
+        && gamma < window
+        && gamma - alpha >= window
+        && beta * gamma - alpha * delta == p
+}
+
+/// The step vectors, the pair being looked for among all vectors of at most p lines. ("At most one such pair exists";
+/// β·γ and -α·δ add up to p, so that no longer vectors need be tried.)
+pub fn step_vectors(p: i128, r: i128, window: i128) -> Reply<Steps> {
+    judge_vectors(p, r, window)?;
+    let g = gcd(r, p);
+    if g >= window {
+        return Ok(Steps::Single((0, p / g)));
+    }
+    let within = |from: i128, to: i128| {
+        let lattice = move |i: i128, j: i128| (i - r * j) % p == 0;
+        (1..=p).flat_map(move |j| {
+            (from..=to)
+                .filter(move |&i| lattice(i, j))
+                .map(move |i| (i, j))
+        })
+    };
+    let rights: Vec<_> = within(0, window - 1).collect();
+    for left in within(1 - window, 0) {
+        for &right in &rights {
+            if is_pair(p, r, window, left, right) {
+                return Ok(Steps::Pair(left, right));
+            }
+        }
+    }
+    panic!("no pair for p {} r {} I {}", p, r, window)
+}
+
+/// Whether these are the step vectors, of any size: the conditions alone.
+pub fn are_steps(p: i128, r: i128, window: i128, steps: &Reply<Steps>) -> bool {
+    match (judge_vectors(p, r, window), steps) {
+        (Err(number), _) => *steps == Err(number),
+        (Ok(()), Err(_)) => false,
+        (Ok(()), Ok(Steps::Single(v))) => {
+            let g = gcd(r, p);
+            g >= window && *v == (0, p / g)
+        }
+        (Ok(()), Ok(Steps::Pair(left, right))) => is_pair(p, r, window, *left, *right),
+    }
+}
+
+fn judge_start(run: &Run, period: i128, start: i128) -> Reply<()> {
+    run.judge()?;
+    judge_period(period)?;
+    refuse_if(start >= run.cells(), 8)
+}
+
+/// The hits of a source in a run that is within the limits, else none.
+pub fn hits_of(run: &Run, period: i128) -> Vec<i128> {
+    if run.judge().is_ok() && judge_period(period).is_ok() {
+        run.hits(period)
+    } else {
+        Vec::new()
+    }
+}
+
+/// The first hit, given all hits of the source in the run.
+pub fn first_hit(run: &Run, period: i128, start: i128, hits: &[i128]) -> Reply<Option<i128>> {
+    judge_start(run, period, start)?;
+    Ok(hits[hits.partition_point(|&x| x < start)..]
+        .first()
+        .copied())
+}
+
+/// The count written and the next hit, and what the room then holds.
+pub fn list_hits(
+    run: &Run,
+    period: i128,
+    start: i128,
+    room: &mut [u64],
+    hits: &[i128],
+) -> Reply<(usize, Option<i128>)> {
+    judge_start(run, period, start)?;
+    refuse_if(room.is_empty(), 9)?;
+    let from = &hits[hits.partition_point(|&x| x < start)..];
+    let count = from.len().min(room.len());
+    for (place, &hit) in room.iter_mut().zip(from) {
+        *place = hit as u64;
+    }
+    Ok((count, from.get(count).copied()))
+}
+
+/// The map afterwards. `hits` gives the hits of each period, for runs of a length of the caller's choice.
+pub fn add_to_map(
+    run: &Run,
+    periods: &[u32],
+    weights: &[u32],
+    map: &mut [u8],
+    hits: impl Fn(&Run, i128) -> Vec<i128>,
+) -> Reply<()> {
+    run.judge()?;
+    refuse_if(periods.len() != weights.len(), 10)?;
+    for (&period, &weight) in periods.iter().zip(weights) {
+        judge_period(period as i128)?;
+        judge_weight(weight as i128)?;
+    }
+    refuse_if(map.len() as i128 != run.cells(), 9)?;
+    let mut sums: Vec<u64> = map.iter().map(|&cell| cell as u64).collect();
+    for (&period, &weight) in periods.iter().zip(weights) {
+        for x in hits(run, period as i128) {
+            sums[x as usize] += weight as u64;
+        }
+    }
+    for (cell, sum) in map.iter_mut().zip(sums) {
+        *cell = sum.min(255) as u8;
+    }
+    Ok(())
+}
+
+/// "Check = 1 + sum of (k+1)·byte k for k = 0..507."
+pub fn check(block: &[u8]) -> u32 {
+    let sum: u64 = (0..508).map(|k| (k as u64 + 1) * block[k] as u64).sum();
+    (1 + sum) as u32
+}
+
+/// A block: its number, its contents filled up with zeros, its check.
+fn block(number: u32, contents: &[u8]) -> Vec<u8> {
+    let mut bytes = number.to_le_bytes().to_vec();
+    bytes.extend(contents);
+    bytes.resize(508, 0);
+    bytes.extend(check(&bytes).to_le_bytes());
+    bytes
+}
+
+/// The file of a run within the limits and its map.
+pub fn file_of(run: &Run, map: &[u8]) -> Vec<u8> {
+    let mut heading = vec![1, 0, 0, 0];
+    for number in [run.window, run.interval, run.first, run.last] {
+        heading.extend((number as u32).to_le_bytes());
+    }
+    let mut file = block(0, &heading);
+    for (k, cells) in map.chunks(504).enumerate() {
+        file.extend(block(k as u32 + 1, cells));
+    }
+    file
+}
+
+pub fn save(run: &Run, map: &[u8], file: &mut [u8]) -> Reply<()> {
+    run.judge()?;
+    refuse_if(map.len() as i128 != run.cells(), 9)?;
+    let whole = file_of(run, map);
+    refuse_if(file.len() != whole.len(), 9)?;
+    file.copy_from_slice(&whole);
+    Ok(())
+}
+
+fn number_at(bytes: &[u8], at: usize) -> u32 {
+    u32::from_le_bytes(bytes[at..at + 4].try_into().unwrap())
+}
+
+/// "14: wrong block number or check."
+fn judge_block(number: usize, block: &[u8]) -> Reply<()> {
+    let wrong = number_at(block, 0) != number as u32 || number_at(block, 508) != check(block);
+    refuse_if(wrong, 14)
+}
+
+fn zeros(bytes: &[u8]) -> bool {
+    bytes.iter().all(|&byte| byte == 0)
+}
+
+pub fn read(file: &[u8], map: &mut [u8]) -> Reply<Run> {
+    refuse_if(file.len() % 512 != 0 || file.is_empty(), 13)?;
+    let blocks: Vec<&[u8]> = file.chunks(512).collect();
+    judge_block(0, blocks[0])?;
+    let laid_down = file[4] == 1 && zeros(&file[5..8]) && zeros(&file[24..508]);
+    refuse_if(!laid_down, 15)?;
+    let at = |place| number_at(file, place) as i128;
+    let run = Run {
+        window: at(8),
+        interval: at(12),
+        first: at(16),
+        last: at(20),
+    };
+    run.judge()?;
+    let needed = (run.cells() + 503) / 504 + 1;
+    refuse_if(blocks.len() as i128 != needed, 13)?;
+    let mut cells: Vec<u8> = Vec::new();
+    for (number, block) in blocks.iter().enumerate().skip(1) {
+        judge_block(number, block)?;
+        let left = (run.cells() as usize - cells.len()).min(504);
+        cells.extend(&block[4..4 + left]);
+        refuse_if(!zeros(&block[4 + left..508]), 15)?;
+    }
+    refuse_if(map.len() != cells.len(), 9)?;
+    map.copy_from_slice(&cells);
+    Ok(run)
+}
+
+/// "Decimal numbers up to 4,294,967,295 without sign or leading zeros (0 itself is `0`)."
+fn decimal(word: &str) -> Option<i128> {
+    let digits = !word.is_empty() && word.bytes().all(|byte| byte.is_ascii_digit());
+    let leads = word.len() > 1 && word.starts_with('0');
+    if !digits || leads || word.len() > 10 {
+        return None;
+    }
+    word.parse().ok().filter(|&number| number <= 4_294_967_295)
+}
+
+/// The numbers of a line that is this keyword and so many numbers, with single spaces.
+fn numbers(line: &str, keyword: &str, count: usize) -> Option<Vec<i128>> {
+    let mut words = line.split(' ');
+    if words.next() != Some(keyword) {
+        return None;
+    }
+    let numbers: Option<Vec<i128>> = words.map(decimal).collect();
+    numbers.filter(|numbers| numbers.len() == count)
+}
+
+/// What a text of the form says, before any limit is looked at.
+fn parse(text: &[u8]) -> Option<(Run, Vec<(i128, i128)>)> {
+    if text.len() > 4096 {
+        return None;
+    }
+    let lines = std::str::from_utf8(text).ok()?.strip_suffix('\n')?;
+    let mut lines = lines.split('\n');
+    let run = numbers(lines.next()?, "run", 4)?;
+    let run = Run {
+        window: run[0],
+        interval: run[1],
+        first: run[2],
+        last: run[3],
+    };
+    let mut sources = Vec::new();
+    for line in lines {
+        let source = numbers(line, "src", 2)?;
+        sources.push((source[0], source[1]));
+    }
+    Some((run, sources))
+}
+
+pub fn read_text(text: &[u8]) -> Reply<(Run, Vec<(i128, i128)>)> {
+    let (run, sources) = parse(text).ok_or(11)?;
+    run.judge()?;
+    refuse_if(sources.len() > 64 || run.cells() > 65_536, 12)?;
+    for &(period, weight) in &sources {
+        judge_period(period)?;
+        judge_weight(weight)?;
+    }
+    Ok((run, sources))
+}

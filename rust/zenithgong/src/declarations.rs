@@ -1,0 +1,106 @@
+//! The exported functions and the answers that they give, as `crates/exports/src/lib.rt` has them.
+//! A slice there is a pointer and a length here. `tests/declarations.rs` holds this file to that one.
+
+/// The step vectors.
+#[repr(C)]
+pub struct StepsReply {
+    pub refusal: u8,
+    pub vectors: u8,
+    pub alpha: i64,
+    pub beta: u64,
+    pub gamma: i64,
+    pub delta: u64,
+}
+
+/// The first hit.
+#[repr(C)]
+pub struct FirstHitReply {
+    pub refusal: u8,
+    pub found: u8,
+    pub cell: u64,
+}
+
+/// How a listing ended.
+#[repr(C)]
+pub struct ListingReply {
+    pub refusal: u8,
+    pub more: u8,
+    pub count: usize,
+    pub next: u64,
+}
+
+/// A run that was read.
+#[repr(C)]
+pub struct RunReply {
+    pub refusal: u8,
+    pub window: u32,
+    pub interval: u32,
+    pub first: u32,
+    pub last: u32,
+}
+
+/// The run and the sources of a text.
+#[repr(C)]
+pub struct TextReply {
+    pub run: RunReply,
+    pub count: usize,
+    pub periods: [u32; 64],
+    pub weights: [u32; 64],
+}
+
+extern "C" {
+    pub fn zenithgong_step_vectors(period: u32, remainder: u32, window: u32) -> StepsReply;
+
+    pub fn zenithgong_first_hit(
+        window: u32,
+        interval: u32,
+        first: u32,
+        last: u32,
+        period: u32,
+        start: u64,
+    ) -> FirstHitReply;
+
+    pub fn zenithgong_list_hits(
+        window: u32,
+        interval: u32,
+        first: u32,
+        last: u32,
+        period: u32,
+        start: u64,
+        room: *mut u64,
+        room_length: usize,
+    ) -> ListingReply;
+
+    pub fn zenithgong_add_to_map(
+        window: u32,
+        interval: u32,
+        first: u32,
+        last: u32,
+        periods: *const u32,
+        periods_length: usize,
+        weights: *const u32,
+        weights_length: usize,
+        map: *mut u8,
+        map_length: usize,
+    ) -> u8;
+
+    pub fn zenithgong_save(
+        window: u32,
+        interval: u32,
+        first: u32,
+        last: u32,
+        map: *const u8,
+        map_length: usize,
+        file: *mut u8,
+        file_length: usize,
+    ) -> u8;
+
+    pub fn zenithgong_read(
+        file: *const u8,
+        file_length: usize,
+        map: *mut u8,
+        map_length: usize,
+    ) -> RunReply;
+
+    pub fn zenithgong_read_text(text: *const u8, text_length: usize) -> TextReply;
+}

@@ -1,0 +1,229 @@
+//! Which samples of a scope sat near an edge of a known clock: the proved library, for Rust.
+//!
+//! No function here asks anything of its caller: bad input is refused, and a refused call stores nothing.
+
+pub mod declarations;
+
+use declarations::{
+    zenithgong_add_to_map, zenithgong_first_hit, zenithgong_list_hits, zenithgong_read,
+    zenithgong_read_text, zenithgong_save, zenithgong_step_vectors, RunReply,
+};
+use std::fmt;
+
+/// A run: the window's width and the interval in ticks, the first and the last line.
+#[derive(Clone, Copy, Debug, PartialEq, Eq)]
+pub struct Run {
+    pub window: u32,
+    pub interval: u32,
+    pub first: u32,
+    pub last: u32,
+}
+
+/// A vector of the lattice: ticks of offset, to the right or (below 0) to the left, and lines on.
+#[derive(Clone, Copy, Debug, PartialEq, Eq)]
+pub struct Vector {
+    pub offset: i64,
+    pub line: u64,
+}
+
+/// The step vectors of a source.
+#[derive(Clone, Copy, Debug, PartialEq, Eq)]
+pub enum Steps {
+    /// (α, β), which leads left, and (γ, δ), which leads right.
+    Pair(Vector, Vector),
+    /// No pair exists: (0, p/g).
+    Single(Vector),
+}
+
+/// The first hit from a cell on.
+#[derive(Clone, Copy, Debug, PartialEq, Eq)]
+pub enum FirstHit {
+    At(u64),
+    Nothing,
+}
+
+/// How a listing ended, with the count of hits written.
+#[derive(Clone, Copy, Debug, PartialEq, Eq)]
+pub enum Listing {
+    Done(usize),
+    /// A hit is left, and this is its cell.
+    More(usize, u64),
+}
+
+/// What a text says: a run, and its sources by period and weight.
+#[derive(Clone, Debug, PartialEq, Eq)]
+pub struct Input {
+    pub run: Run,
+    pub sources: Vec<(u32, u32)>,
+}
+
+/// A refusal, by its number.
+#[derive(Clone, Copy, Debug, PartialEq, Eq)]
+pub struct Refusal(pub u8);
+
+impl fmt::Display for Refusal {
+    fn fmt(&self, f: &mut fmt::Formatter) -> fmt::Result {
+        let reason = match self.0 {
+            1 => "the window is odd, below 2 or above 4,096",
+            2 => "a line limit is broken",
+            3 => "the interval is 0",
+            4 => "a period is 0 or above 2,147,483,647",
+            5 => "the remainder is not below the period",
+            6 => "the window is wider than the period",
+            7 => "a weight is 0 or above 255",
+            8 => "the starting cell is not in the run",
+            9 => {
+                "the listing room is empty, or the map or the file room is not of the exact length"
+            }
+            10 => "the period list and the weight list are of unequal length",
+            11 => "the text is not of the form laid down",
+            12 => "the text has more than 64 sources, or a run of more than 65,536 cells",
+            13 => "the file has no whole number of blocks, none, or not as many as its run needs",
+            14 => "a block of the file has a wrong number or check",
+            15 => "a version, spare byte or filling of the file is not as laid down",
+            _ => "unknown reason",
+        };
+        write!(f, "refused {}: {}", self.0, reason)
+    }
+}
+
+impl std::error::Error for Refusal {}
+
+/// The answer of a call that was not refused.
+fn unless_refused<T>(refusal: u8, answer: T) -> Result<T, Refusal> {
+    match refusal {
+        0 => Ok(answer),
+        number => Err(Refusal(number)),
+    }
+}
+
+/// The step vectors of a period, a remainder below it and a window no wider than it.
+pub fn step_vectors(period: u32, remainder: u32, window: u32) -> Result<Steps, Refusal> {
+    let reply = unsafe { zenithgong_step_vectors(period, remainder, window) };
+    let first = Vector {
+        offset: reply.alpha,
+        line: reply.beta,
+    };
+    let second = Vector {
+        offset: reply.gamma,
+        line: reply.delta,
+    };
+    let steps = if reply.vectors == 2 {
+        Steps::Pair(first, second)
+    } else {
+        Steps::Single(first)
+    };
+    unless_refused(reply.refusal, steps)
+}
+
+/// The smallest hit cell of a run that is not below the start.
+pub fn first_hit(run: Run, period: u32, start: u64) -> Result<FirstHit, Refusal> {
+    let reply = unsafe {
+        zenithgong_first_hit(run.window, run.interval, run.first, run.last, period, start)
+    };
+    let hit = if reply.found == 1 {
+        FirstHit::At(reply.cell)
+    } else {
+        FirstHit::Nothing
+    };
+    unless_refused(reply.refusal, hit)
+}
+
+/// Writes the hit cells of a run that are not below the start into a room, in rising order.
+pub fn list_hits(run: Run, period: u32, start: u64, room: &mut [u64]) -> Result<Listing, Refusal> {
+    let reply = unsafe {
+        zenithgong_list_hits(
+            run.window,
+            run.interval,
+            run.first,
+            run.last,
+            period,
+            start,
+            room.as_mut_ptr(),
+            room.len(),
+        )
+    };
+    let listing = match reply.more {
+        0 => Listing::Done(reply.count),
+        _ => Listing::More(reply.count, reply.next),
+    };
+    unless_refused(reply.refusal, listing)
+}
+
+/// Adds to every cell of a run's map the weights of all sources that hit it, up to 255.
+pub fn add_to_map(
+    run: Run,
+    periods: &[u32],
+    weights: &[u32],
+    map: &mut [u8],
+) -> Result<(), Refusal> {
+    let refusal = unsafe {
+        zenithgong_add_to_map(
+            run.window,
+            run.interval,
+            run.first,
+            run.last,
+            periods.as_ptr(),
+            periods.len(),
+            weights.as_ptr(),
+            weights.len(),
+            map.as_mut_ptr(),
+            map.len(),
+        )
+    };
+    unless_refused(refusal, ())
+}
+
+/// Writes a run and its map into a file room.
+pub fn save(run: Run, map: &[u8], file: &mut [u8]) -> Result<(), Refusal> {
+    let refusal = unsafe {
+        zenithgong_save(
+            run.window,
+            run.interval,
+            run.first,
+            run.last,
+            map.as_ptr(),
+            map.len(),
+            file.as_mut_ptr(),
+            file.len(),
+        )
+    };
+    unless_refused(refusal, ())
+}
+
+fn run_of(reply: RunReply) -> Result<Run, Refusal> {
+    let RunReply {
+        refusal,
+        window,
+        interval,
+        first,
+        last,
+    } = reply;
+    unless_refused(
+        refusal,
+        Run {
+            window,
+            interval,
+            first,
+            last,
+        },
+    )
+}
+
+/// The run of a file; the map is filled with its cells.
+pub fn read(file: &[u8], map: &mut [u8]) -> Result<Run, Refusal> {
+    run_of(unsafe { zenithgong_read(file.as_ptr(), file.len(), map.as_mut_ptr(), map.len()) })
+}
+
+/// The run and the sources that a text has.
+pub fn read_text(text: &[u8]) -> Result<Input, Refusal> {
+    let reply = unsafe { zenithgong_read_text(text.as_ptr(), text.len()) };
+    let run = run_of(reply.run)?;
+    let sources = reply
+        .periods
+        .into_iter()
+        .zip(reply.weights)
+        .take(reply.count)
+        .collect();
+    Ok(Input { run, sources })
+}

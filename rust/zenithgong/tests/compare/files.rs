@@ -1,0 +1,166 @@
+use crate::support::{trials, wide, Random};
+use zenithgong::Run;
+
+fn ours_read(file: &[u8], map: &mut [u8]) -> Result<reference::Run, u8> {
+    zenithgong::read(file, map)
+        .map(wide)
+        .map_err(|refusal| refusal.0)
+}
+
+/// Reads a file into a room of this length, held to the reference.
+fn compare_read(random: &mut Random, file: &[u8], length: usize) {
+    let mut map = random.bytes(length);
+    let mut after = map.clone();
+    let expected = reference::read(file, &mut after);
+    assert_eq!(
+        ours_read(file, &mut map),
+        expected,
+        "a file of {} bytes",
+        file.len()
+    );
+    assert!(
+        map == after,
+        "a file of {} bytes: the maps differ",
+        file.len()
+    );
+}
+
+/// Saves a map into a room of this length, held to the reference.
+fn compare_save(random: &mut Random, run: Run, map: &[u8], length: usize) {
+    let mut file = random.bytes(length);
+    let mut after = file.clone();
+    let expected = reference::save(&wide(run), map, &mut after);
+    let said = zenithgong::save(run, map, &mut file).map_err(|refusal| refusal.0);
+    assert_eq!(said, expected, "{:?}, a map of {} bytes", run, map.len());
+    assert!(file == after, "{:?}: the files differ", run);
+}
+
+/// Writes the check of the block that has this byte, so that only what stands before it is wrong.
+fn seal(file: &mut [u8], byte: usize) {
+    let block = &mut file[byte / 512 * 512..][..512];
+    let check = reference::check(block).to_le_bytes();
+    block[508..].copy_from_slice(&check);
+}
+
+#[test]
+fn saved_and_read() {
+    trials("files saved and read", 10_000, |random| {
+        let run = random.any_run();
+        let cells = wide(run).cells().clamp(0, 20_000) as usize;
+        let length = if random.one_in(10) { cells + 1 } else { cells };
+        let map = random.bytes(length);
+        let blocks = 1 + (cells + 503) / 504;
+        let room = if random.one_in(10) {
+            random.between(0, 2000) as usize
+        } else {
+            512 * blocks
+        };
+        compare_save(random, run, &map, room);
+        let file = reference::file_of(&wide(run), &map);
+        let length = if random.one_in(10) { cells ^ 1 } else { cells };
+        compare_read(random, &file, length);
+        2
+    });
+}
+
+/// The file of the document's run of 20 cells, and one whose cells fill a block and a part of the next.
+fn examples(random: &mut Random) -> [Vec<u8>; 2] {
+    let small = Run {
+        window: 4,
+        interval: 10,
+        first: 1,
+        last: 5,
+    };
+    let large = Run {
+        window: 100,
+        interval: 7,
+        first: 3,
+        last: 8,
+    };
+    [small, large].map(|run| {
+        let map = random.bytes(wide(run).cells() as usize);
+        reference::file_of(&wide(run), &map)
+    })
+}
+
+#[test]
+fn every_byte_changed() {
+    trials("every byte of a file changed", 1, |random| {
+        let mut calls = 0;
+        for (file, cells) in examples(random).iter().zip([20, 600]) {
+            for byte in 0..file.len() {
+                for change in 1..=255u8 {
+                    let mut damaged = file.clone();
+                    damaged[byte] ^= change;
+                    if change % 8 == 7 {
+                        seal(&mut damaged, byte);
+                    }
+                    if cells == 20 || change % 4 == 3 {
+                        compare_read(random, &damaged, cells);
+                        calls += 1;
+                    }
+                }
+            }
+        }
+        calls
+    });
+}
+
+#[test]
+fn two_bytes_changed() {
+    trials("two bytes of a file changed", 20_000, |random| {
+        let mut file = examples(random)[random.below(2) as usize].clone();
+        for _ in 0..2 {
+            let byte = match random.below(2) {
+                0 => random.below(32) as usize,
+                _ => random.below(file.len() as u64) as usize,
+            };
+            file[byte] = random.number() as u8;
+            seal(&mut file, byte);
+        }
+        compare_read(random, &file, 20);
+        1
+    });
+}
+
+#[test]
+fn every_length() {
+    trials("every length of a file", 1, |random| {
+        let mut calls = 0;
+        for file in examples(random) {
+            for length in 0..=2 * file.len() {
+                let mut other = file.clone();
+                other.resize(length, 0);
+                compare_read(random, &other, 20);
+                calls += 1;
+            }
+        }
+        calls
+    });
+}
+
+#[test]
+fn of_65_536_cells() {
+    trials("files of 65,536 cells", 6, |random| {
+        let window = 2 << random.below(12);
+        let run = Run {
+            window,
+            interval: random.number().max(1),
+            first: 1,
+            last: 65_536 / window,
+        };
+        let map = random.bytes(65_536);
+        compare_save(random, run, &map, 512 * 132);
+        let file = reference::file_of(&wide(run), &map);
+        compare_read(random, &file, 65_536);
+        for byte in (0..file.len()).step_by(251) {
+            let mut damaged = file.clone();
+            damaged[byte] ^= 1 << random.below(8);
+            if random.one_in(2) {
+                seal(&mut damaged, byte);
+            }
+            compare_read(random, &damaged, 65_536);
+        }
+        2 + (file.len() as u64 + 250) / 251
+    });
+}

@@ -1,0 +1,148 @@
+use crate::support::{trials, wide, Random};
+use zenithgong::Run;
+
+fn ours(run: Run, periods: &[u32], weights: &[u32], map: &mut [u8]) -> Result<(), u8> {
+    zenithgong::add_to_map(run, periods, weights, map).map_err(|refusal| refusal.0)
+}
+
+/// Periods and weights of so many sources, all within the limits.
+fn sources(random: &mut Random, count: u64) -> (Vec<u32>, Vec<u32>) {
+    (0..count)
+        .map(|_| (random.period(), random.between(1, 255)))
+        .unzip()
+}
+
+/// One call, held to the reference, which goes by all cells or by lines.
+fn compare(run: Run, periods: &[u32], weights: &[u32], map: Vec<u8>, by_line: bool) {
+    let (mut map, mut after) = (map.clone(), map);
+    let hits = |run: &reference::Run, p: i128| {
+        if by_line {
+            run.hits_by_line(p)
+        } else {
+            run.hits(p)
+        }
+    };
+    let expected = reference::add_to_map(&wide(run), periods, weights, &mut after, hits);
+    let words = || format!("{:?}, periods {:?}, weights {:?}", run, periods, weights);
+    assert_eq!(
+        ours(run, periods, weights, &mut map),
+        expected,
+        "{}",
+        words()
+    );
+    assert!(map == after, "{}: the maps differ", words());
+}
+
+#[test]
+fn small() {
+    trials("small maps", 20_000, |random| {
+        let run = random.any_run();
+        let count = random.below(5);
+        let (mut periods, mut weights) = sources(random, count);
+        if random.one_in(8) {
+            periods.push(random.number());
+            weights.push(random.number());
+        }
+        if random.one_in(12) {
+            weights.push(1);
+        }
+        let cells = wide(run).cells().clamp(0, 20_000) as u64;
+        let length = if random.one_in(10) { cells ^ 1 } else { cells };
+        compare(
+            run,
+            &periods,
+            &weights,
+            random.bytes(length as usize),
+            false,
+        );
+        1
+    });
+}
+
+#[test]
+fn blocks_in_any_order() {
+    trials("maps of blocks", 2_000, |random| {
+        let (run, count) = (random.small_run(), random.below(5));
+        let (periods, weights) = sources(random, count);
+        let mut whole = random.bytes(wide(run).cells() as usize);
+        let mut map = whole.clone();
+        ours(run, &periods, &weights, &mut whole).unwrap();
+        let (mut first, mut at, mut calls) = (run.first, 0, 1);
+        while first <= run.last {
+            let last = (first + random.below(4) as u32).min(run.last);
+            let block = Run { first, last, ..run };
+            let end = at + wide(block).cells() as usize;
+            for k in (0..count as usize).rev() {
+                ours(
+                    block,
+                    &periods[k..k + 1],
+                    &weights[k..k + 1],
+                    &mut map[at..end],
+                )
+                .unwrap();
+                calls += 1;
+            }
+            (first, at) = (last + 1, end);
+        }
+        assert!(
+            map == whole,
+            "{:?}, periods {:?}, weights {:?}",
+            run,
+            periods,
+            weights
+        );
+        calls
+    });
+}
+
+/// A run of so many cells.
+fn run_of(random: &mut Random, window: u32, lines: u32) -> Run {
+    let first = random.between(1, 16_777_217 - lines as u64);
+    let interval = random.number().max(1);
+    Run {
+        window,
+        interval,
+        first,
+        last: first + lines - 1,
+    }
+}
+
+#[test]
+fn of_65_536_cells() {
+    trials("maps of 65,536 cells", 40, |random| {
+        let window = 2 << random.below(12);
+        let run = run_of(random, window, 65_536 / window);
+        let (periods, weights) = sources(random, 8);
+        compare(run, &periods, &weights, random.bytes(65_536), true);
+        1
+    });
+}
+
+#[test]
+fn long() {
+    trials("long maps", 4, |random| {
+        let window = 2 << random.below(12);
+        let lines = 1_100_000 / window + 3;
+        let run = run_of(random, window, lines);
+        let (mut periods, weights) = sources(random, 6);
+        periods[0] = random.between(2_000, 2_100);
+        let map = vec![random.next() as u8; (window * lines) as usize];
+        compare(run, &periods, &weights, map, true);
+        1
+    });
+}
+
+#[test]
+fn of_the_longest_run() {
+    trials("the map of 16,777,216 lines", 1, |random| {
+        let run = Run {
+            window: 2,
+            interval: 4_294_967_294,
+            first: 1,
+            last: 16_777_216,
+        };
+        let map = vec![random.next() as u8; 33_554_432];
+        compare(run, &[1_000_003, 2_147_483_647], &[200, 100], map, true);
+        1
+    });
+}

@@ -1,0 +1,127 @@
+//! Random inputs, one seed a trial, and the count of calls.
+use zenithgong::Run;
+
+/// Numbers at and around which something changes.
+const EDGES: [u64; 8] = [
+    0,
+    256,
+    4_096,
+    65_536,
+    16_777_216,
+    1 << 30,
+    2_147_483_647,
+    4_294_967_295,
+];
+
+/// Splitmix: a sequence for each seed.
+pub struct Random(u64);
+
+impl Random {
+    pub fn next(&mut self) -> u64 {
+        self.0 = self.0.wrapping_add(0x9e37_79b9_7f4a_7c15);
+        let mut z = self.0;
+        z = (z ^ (z >> 30)).wrapping_mul(0xbf58_476d_1ce4_e5b9);
+        z = (z ^ (z >> 27)).wrapping_mul(0x94d0_49bb_1331_11eb);
+        z ^ (z >> 31)
+    }
+
+    pub fn below(&mut self, n: u64) -> u64 {
+        self.next() % n
+    }
+
+    pub fn between(&mut self, low: u64, high: u64) -> u32 {
+        (low + self.below(high - low + 1)) as u32
+    }
+
+    pub fn one_in(&mut self, n: u64) -> bool {
+        self.below(n) == 0
+    }
+
+    /// Any number: small, near an edge, or of any length in bits.
+    pub fn number(&mut self) -> u32 {
+        match self.below(4) {
+            0 => self.below(20) as u32,
+            1 => (EDGES[self.below(8) as usize] + self.below(5)).saturating_sub(2) as u32,
+            _ => (self.next() >> 32) as u32 >> self.below(32),
+        }
+    }
+
+    /// A period within the limits: short, or any.
+    pub fn period(&mut self) -> u32 {
+        match self.below(4) {
+            0 => self.number().clamp(1, 2_147_483_647),
+            _ => self.between(1, 40),
+        }
+    }
+
+    /// A run within the limits, of a few lines anywhere.
+    pub fn small_run(&mut self) -> Run {
+        let first = self.number().clamp(1, 16_777_216);
+        Run {
+            window: 2 * self.between(1, 6),
+            interval: self.number().max(1),
+            first,
+            last: (first + self.below(12) as u32).min(16_777_216),
+        }
+    }
+
+    /// The same, with one number or more out of place at times.
+    pub fn any_run(&mut self) -> Run {
+        let mut run = self.small_run();
+        match self.below(12) {
+            0 => run.window = self.number(),
+            1 => run.interval = 0,
+            2 => run.first = self.number(),
+            3 => run.last = self.number(),
+            4 => {
+                run = Run {
+                    window: 3,
+                    interval: 0,
+                    first: 2,
+                    last: 1,
+                }
+            }
+            _ => {}
+        }
+        let long = run.last.saturating_sub(run.first) > 12;
+        if long && run.last <= 16_777_216 {
+            run.last = run.first + 5;
+        }
+        run
+    }
+
+    pub fn bytes(&mut self, count: usize) -> Vec<u8> {
+        (0..count).map(|_| self.next() as u8).collect()
+    }
+}
+
+pub fn wide(run: Run) -> reference::Run {
+    reference::Run {
+        window: run.window as i128,
+        interval: run.interval as i128,
+        first: run.first as i128,
+        last: run.last as i128,
+    }
+}
+
+/// Names the seed where a trial fails.
+struct Named<'a>(&'a str, u64);
+
+impl Drop for Named<'_> {
+    fn drop(&mut self) {
+        if std::thread::panicking() {
+            eprintln!("{} failed at seed {}", self.0, self.1);
+        }
+    }
+}
+
+/// Runs a trial, which tells its calls, once for each seed.
+pub fn trials(name: &str, seeds: u64, trial: impl Fn(&mut Random) -> u64) {
+    let mut calls = 0;
+    for seed in 0..seeds {
+        let named = Named(name, seed);
+        calls += trial(&mut Random(seed.wrapping_mul(0x2545_f491_4f6c_dd1d)));
+        drop(named);
+    }
+    println!("calls {} {}", calls, name);
+}

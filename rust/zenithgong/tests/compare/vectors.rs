@@ -1,0 +1,70 @@
+use crate::support::{trials, Random};
+use reference::Steps;
+use zenithgong::Vector;
+
+fn ours(p: u32, r: u32, window: u32) -> Result<Steps, u8> {
+    let pair = |v: Vector| (v.offset as i128, v.line as i128);
+    match zenithgong::step_vectors(p, r, window) {
+        Ok(zenithgong::Steps::Pair(left, right)) => Ok(Steps::Pair(pair(left), pair(right))),
+        Ok(zenithgong::Steps::Single(only)) => Ok(Steps::Single(pair(only))),
+        Err(refusal) => Err(refusal.0),
+    }
+}
+
+#[test]
+fn every_small_one() {
+    trials("every small period, remainder and window", 1, |_| {
+        let mut calls = 0;
+        for p in 0..=24 {
+            for r in 0..=p + 1 {
+                for window in 0..=p + 3 {
+                    let expected = reference::step_vectors(p as i128, r as i128, window as i128);
+                    assert_eq!(ours(p, r, window), expected, "p {} r {} I {}", p, r, window);
+                    calls += 1;
+                }
+            }
+        }
+        calls
+    });
+}
+
+/// A remainder with a share in the period, or any.
+fn remainder(random: &mut Random, p: u32) -> u32 {
+    match random.below(6) {
+        0 => 0,
+        1 => p.saturating_sub(random.below(3) as u32),
+        2 => p / random.between(1, 3000) * random.between(0, 3000).min(2),
+        3 => random.number(),
+        _ => random.below(p.max(1) as u64) as u32,
+    }
+}
+
+#[test]
+fn any() {
+    trials("any vectors", 250_000, |random| {
+        let p = random.number();
+        let r = remainder(random, p);
+        let window = match random.below(5) {
+            0 => random.number(),
+            _ => 2 * random.between(1, 2048),
+        };
+        let steps = ours(p, r, window);
+        let right = reference::are_steps(p as i128, r as i128, window as i128, &steps);
+        assert!(right, "p {} r {} I {}: {:?}", p, r, window, steps);
+        1
+    });
+}
+
+#[test]
+fn longest() {
+    trials("vectors of the longest periods", 50_000, |random| {
+        let p = 2_147_483_647 - random.below(1000) as u32;
+        let r = remainder(random, p).min(p - 1);
+        let window = 2 * random.between(1, 2048);
+        let steps = ours(p, r, window);
+        assert!(steps.is_ok());
+        let right = reference::are_steps(p as i128, r as i128, window as i128, &steps);
+        assert!(right, "p {} r {} I {}: {:?}", p, r, window, steps);
+        1
+    });
+}
