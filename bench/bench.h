@@ -1,0 +1,36 @@
+// What is measured, and the peers that it is measured against.
+#include <stddef.h>
+#include <stdint.h>
+
+typedef struct {
+    uint32_t window, interval, first, last;
+} run;
+
+typedef struct {
+    int64_t offset;
+    uint64_t line;
+} vector;
+
+// Two vectors, or one and zeros.
+typedef struct {
+    vector left, right;
+} pair;
+
+// How many cells a run has, and how long its file is.
+static inline uint64_t cells_of(run r) { return (uint64_t)r.window * (r.last - r.first + 1); }
+static inline uint64_t file_of(run r) { return 512 * (1 + (cells_of(r) + 503) / 504); }
+
+// The functions of one compiler: peers.c is compiled once by each, under its own prefix.
+#define PEERS(by)                                                                                                  \
+    void by##_naive(run r, const uint32_t *periods, const uint32_t *weights, size_t n, uint8_t *map);              \
+    void by##_walk(run r, const uint32_t *periods, const uint32_t *weights, size_t n, uint8_t *map);               \
+    pair by##_vectors(uint32_t period, uint32_t remainder, uint32_t window);                                       \
+    uint64_t by##_first_hit(run r, uint32_t period, uint64_t start);                                               \
+    size_t by##_list(run r, uint32_t period, uint64_t start, uint64_t *room, size_t length, uint64_t *next);       \
+    void by##_save(run r, const uint8_t *map, uint8_t *file);                                                      \
+    int by##_read(const uint8_t *file, uint64_t length, run *r, uint8_t *map);
+PEERS(gcc)
+PEERS(clang)
+
+// The walk of peers.rs.
+void rust_walk(run r, const uint32_t *periods, const uint32_t *weights, size_t n, uint8_t *map);

@@ -1,0 +1,292 @@
+// Measures the library and its peers side by side. Each line of output is: row, unit, what one unit of ours costs in nanoseconds,
+// how many units a call has, then for each peer the peer's time over ours ("-" where it does not take part).
+//
+// In a repetition every contender makes the same call, in an order that turns from one repetition to the next, and the interval
+// is another one in every call. What is printed is the median over the repetitions; a ratio is taken within a repetition.
+// Before each call the buffers that it writes are cleared, outside the measured time. All contenders must leave the same
+// bytes: each call's are summed up, and a difference ends the run.
+#include "bench.h"
+#include "ours.h"
+#include <stdio.h>
+#include <stdlib.h>
+#include <string.h>
+#include <time.h>
+
+// The contenders, and their number. NAIVE is compiled by gcc; LIMIT writes all bytes and works out none.
+enum { OURS, NAIVE, GCC, CLANG, RUST, LIMIT, WHO };
+enum { REPETITIONS = 41, CALLS = 20000, SOURCES = 1000, LONGEST = 64 << 20, ROOM = 1 << 22 };
+
+typedef struct {
+    const char *name;
+    uint32_t low, high, count;
+} set;
+static const set SETS[] = {{"mix", 3, 2000, 30}, {"2^20", 4096, (1 << 20) - 1, 1000}, {"2^31", 4096, 2147483647, 1000}};
+
+static uint64_t seed;
+static uint64_t any(void) {
+    seed ^= seed << 13;
+    seed ^= seed >> 7;
+    return seed ^= seed << 17;
+}
+
+static double seconds(void) {
+    struct timespec t;
+    clock_gettime(CLOCK_THREAD_CPUTIME_ID, &t);
+    return t.tv_sec + 1e-9 * t.tv_nsec;
+}
+
+static int rising(const void *a, const void *b) { return (*(double *)a > *(double *)b) - (*(double *)a < *(double *)b); }
+static double median(double *v, int n) {
+    qsort(v, n, sizeof *v, rising);
+    return n % 2 ? v[n / 2] : (v[n / 2 - 1] + v[n / 2]) / 2;
+}
+
+// What the calls of a row use. `units` and `sum` are what the call came to.
+static uint32_t periods[SOURCES], weights[SOURCES];
+static size_t sources;
+static uint64_t starts[CALLS];
+static run r;
+static uint8_t *map, *file;
+static uint64_t *room;
+static uint64_t units, sum;
+
+static void choose(const set *s) {
+    sources = s->count, seed = 88172645463325252u;
+    for (size_t k = 0; k < sources; k++) {
+        periods[k] = s->low + any() % (s->high - s->low + 1);
+        weights[k] = 1 + any() % 8;
+    }
+}
+
+static uint64_t sum_of(const void *bytes, uint64_t length) {
+    const uint8_t *at = bytes;
+    uint64_t total = length, word;
+    for (; length >= 8; length -= 8, at += 8) {
+        memcpy(&word, at, 8);
+        total = total * 0x9e3779b97f4a7c15u + word;
+    }
+    while (length--) total = total * 0x9e3779b97f4a7c15u + *at++;
+    return total;
+}
+
+// ---- the map
+
+static uint64_t count_hits(void) {
+    uint64_t hits = 0, next;
+    for (size_t k = 0; k < sources; k++) hits += gcc_list(r, periods[k], 0, room, LONGEST, &next);
+    return hits;
+}
+
+static void add(int who) {
+    uint64_t all = cells_of(r);
+    if (who == OURS && zenithgong_add_to_map(r.window, r.interval, r.first, r.last, periods, sources, weights, sources, map, all)) exit(3);
+    if (who == NAIVE) gcc_naive(r, periods, weights, sources, map);
+    if (who == GCC) gcc_walk(r, periods, weights, sources, map);
+    if (who == CLANG) clang_walk(r, periods, weights, sources, map);
+    if (who == RUST) rust_walk(r, periods, weights, sources, map);
+    if (who == LIMIT) memset(map, r.interval, all);
+}
+
+static double call_map(int who) {
+    memset(map, 0, cells_of(r));
+    double began = seconds();
+    add(who);
+    double took = seconds() - began;
+    sum = sum_of(map, cells_of(r));
+    if (who == OURS) units = count_hits();
+    return took;
+}
+
+// ---- vectors, first hit, listing: many calls in a row
+
+static double call_vectors(int who) {
+    uint64_t total = 0;
+    double began = seconds();
+    for (uint32_t k = 0; k < CALLS; k++) {
+        uint32_t p = periods[k % sources], remainder = (r.interval + 2 * k) % p;
+        pair v;
+        if (who == OURS) {
+            steps_reply s;
+            zenithgong_step_vectors(&s, p, remainder, r.window);
+            v = (pair){{s.alpha, s.beta}, {s.gamma, s.delta}};
+        } else {
+            v = who == GCC ? gcc_vectors(p, remainder, r.window) : clang_vectors(p, remainder, r.window);
+        }
+        total = total * 31 + v.left.offset + 3 * v.left.line + 5 * v.right.offset + 7 * v.right.line;
+    }
+    sum = total, units = CALLS;
+    return seconds() - began;
+}
+
+static double call_first(int who) {
+    uint64_t total = 0, all = cells_of(r);
+    run at = r;
+    double began = seconds();
+    for (uint32_t k = 0; k < CALLS; k++, at.interval += 2) {
+        uint32_t p = periods[k % sources];
+        uint64_t cell;
+        if (who == OURS) {
+            first_hit_reply f = zenithgong_first_hit(at.window, at.interval, at.first, at.last, p, starts[k]);
+            cell = f.found ? f.cell : all;
+        } else {
+            cell = who == GCC ? gcc_first_hit(at, p, starts[k]) : clang_first_hit(at, p, starts[k]);
+        }
+        total = total * 31 + cell;
+    }
+    sum = total, units = CALLS;
+    return seconds() - began;
+}
+
+static double call_list(int who) {
+    uint64_t next, done = 0;
+    run at = r;
+    memset(room, 0, ROOM * 8);
+    double began = seconds();
+    for (size_t k = 0; k < sources; k++, at.interval += 2) {
+        if (who == OURS) {
+            listing_reply l;
+            zenithgong_list_hits(&l, at.window, at.interval, at.first, at.last, periods[k], 0, room + done, ROOM - done);
+            done += l.count;
+        } else if (who == GCC) {
+            done += gcc_list(at, periods[k], 0, room + done, ROOM - done, &next);
+        } else {
+            done += clang_list(at, periods[k], 0, room + done, ROOM - done, &next);
+        }
+    }
+    double took = seconds() - began;
+    sum = sum_of(room, ROOM * 8), units = done;
+    return took;
+}
+
+// ---- the saved map
+
+static double call_save(int who) {
+    uint64_t all = cells_of(r), length = file_of(r);
+    memset(file, 0, length);
+    double began = seconds();
+    if (who == OURS && zenithgong_save(r.window, r.interval, r.first, r.last, map, all, file, length)) exit(3);
+    if (who == GCC) gcc_save(r, map, file);
+    if (who == CLANG) clang_save(r, map, file);
+    if (who == LIMIT) memcpy(file, map, all);
+    double took = seconds() - began;
+    sum = sum_of(file, length), units = all;
+    return took;
+}
+
+static double call_read(int who) {
+    uint64_t all = cells_of(r), length = file_of(r);
+    run found;
+    run_reply reply = {0};
+    gcc_save(r, map, file);
+    uint8_t *to = (uint8_t *)room;
+    memset(to, 0, all);
+    double began = seconds();
+    if (who == OURS) zenithgong_read(&reply, file, length, to, all);
+    if ((who == GCC && !gcc_read(file, length, &found, to)) || (who == CLANG && !clang_read(file, length, &found, to)) || reply.refusal) exit(3);
+    if (who == LIMIT) memcpy(to, file, all);
+    double took = seconds() - began;
+    sum = sum_of(to, all), units = all;
+    return took;
+}
+
+// ---- a row
+
+// Only rows that begin so are measured.
+static const char *only = "";
+
+// Measures a row: 41 repetitions, or as many as fit in four seconds, at least 5. `takes_part` has a + for each contender that does.
+static void measure(const char *row, const char *unit, double (*call)(int), const char *takes_part) {
+    if (strncmp(row, only, strlen(only))) return;
+    static double took[WHO][REPETITIONS], ratio[REPETITIONS], each[REPETITIONS], had[REPETITIONS];
+    int n = 0;
+    for (double spent = 0; n < REPETITIONS && (n < 5 || spent < 4); n++) {
+        double began = seconds();
+        uint64_t expected = 0;
+        int seen = 0;
+        r.interval = 1 + any() % 4000000000u;
+        for (int k = 0; k < WHO; k++) {
+            int who = (k + n) % WHO;
+            if (takes_part[who] != '+') continue;
+            took[who][n] = call(who);
+            if (who == OURS) had[n] = units, each[n] = took[who][n] / units;
+            if (who == LIMIT) continue;
+            if (seen++ && sum != expected) {
+                fprintf(stderr, "%s: contender %d differs at interval %u\n", row, who, r.interval);
+                exit(1);
+            }
+            expected = sum;
+        }
+        spent += seconds() - began;
+    }
+    printf("%s\t%s\t%.3f\t%.0f", row, unit, 1e9 * median(each, n), median(had, n));
+    for (int who = NAIVE; who < WHO; who++) {
+        for (int k = 0; k < n; k++) ratio[k] = took[who][k] / took[OURS][k];
+        if (takes_part[who] == '+')
+            printf("\t%.3f", median(ratio, n));
+        else
+            printf("\t-");
+    }
+    printf("\n");
+    fflush(stdout);
+}
+
+static void take_run(uint32_t window, uint64_t mib) { r = (run){window, 1, 1, (uint32_t)((mib << 20) / window)}; }
+
+static void measure_all(void) {
+    char row[64];
+    static const uint32_t windows[] = {64, 512, 4096};
+    static const int sizes[] = {1, 64};
+    for (int s = 0; s < 3; s++)
+        for (int size = 0; size < 2; size++)
+            for (int w = 0; w < 3; w++) {
+                choose(&SETS[s]);
+                take_run(windows[w], sizes[size]);
+                snprintf(row, sizeof row, "map %s %u %d", SETS[s].name, windows[w], sizes[size]);
+                measure(row, "hit", call_map, "++++++");
+            }
+    for (int s = 1; s < 3; s++) {
+        choose(&SETS[s]);
+        take_run(512, 64);
+        for (int k = 0; k < CALLS; k++) starts[k] = any() % cells_of(r);
+        snprintf(row, sizeof row, "vectors %s 512 -", SETS[s].name);
+        measure(row, "call", call_vectors, "+-++--");
+        snprintf(row, sizeof row, "first %s 512 64", SETS[s].name);
+        measure(row, "call", call_first, "+-++--");
+    }
+    for (int s = 0; s < 2; s++) {
+        choose(&SETS[s]);
+        take_run(512, s ? 64 : 1);
+        snprintf(row, sizeof row, "list %s 512 %d", SETS[s].name, s ? 64 : 1);
+        measure(row, "hit", call_list, "+-++--");
+    }
+    for (int size = 0; size < 2; size++) {
+        take_run(512, sizes[size]);
+        for (uint64_t k = 0; k < cells_of(r); k++) map[k] = any();
+        snprintf(row, sizeof row, "save - 512 %d", sizes[size]);
+        measure(row, "cell", call_save, "+-++-+");
+        snprintf(row, sizeof row, "read - 512 %d", sizes[size]);
+        measure(row, "cell", call_read, "+-++-+");
+    }
+}
+
+// One call of one contender, for a tool that counts instructions, and its hits. With no contender, what is not the call's.
+static void count(const char *name, uint32_t window, uint64_t mib, int who) {
+    for (int s = 0; s < 3; s++)
+        if (!strcmp(SETS[s].name, name)) choose(&SETS[s]);
+    take_run(window, mib);
+    r.interval = 1234567891;
+    add(who);
+    printf("%llu\n", (unsigned long long)count_hits());
+}
+
+int main(int argc, char **argv) {
+    map = malloc(LONGEST), file = malloc(LONGEST + LONGEST / 32), room = malloc((size_t)LONGEST * 8);
+    if (!map || !file || !room) return 3;
+    if (argc == 5) {
+        count(argv[1], atoi(argv[2]), atoi(argv[3]), atoi(argv[4]));
+        return 0;
+    }
+    if (argc == 2) only = argv[1];
+    measure_all();
+    return 0;
+}

@@ -1,0 +1,195 @@
+// The peers in plain C: what a user would write today (naive), and the walk of Franke and Kleinjung with all that belongs to it.
+// They judge nothing that they are given. NAME(x) puts the compiler's name before x.
+#include "bench.h"
+#include <string.h>
+
+#define IN(by, x) by##_##x
+#define AS(by, x) IN(by, x)
+#define NAME(x) AS(BY, x)
+
+static inline uint8_t plus(uint8_t cell, uint8_t weight) { return cell > 255 - weight ? 255 : cell + weight; }
+
+// On each line a remainder, then every period-th cell.
+void NAME(naive)(run r, const uint32_t *periods, const uint32_t *weights, size_t n, uint8_t *map) {
+    for (size_t k = 0; k < n; k++) {
+        uint32_t p = periods[k];
+        uint8_t weight = weights[k], *line = map;
+        for (uint64_t j = r.first; j <= r.last; j++, line += r.window)
+            for (uint64_t x = (r.interval * j + r.window / 2) % p; x < r.window; x += p) line[x] = plus(line[x], weight);
+    }
+}
+
+// The pair of step vectors of a window no wider than the period, or the single one: sizes and lines, the side kept apart.
+pair NAME(vectors)(uint32_t period, uint32_t remainder, uint32_t window) {
+    uint32_t n = period, m = remainder;
+    uint64_t b = 0, c = 1;
+    int right = 1;
+    while (m >= window) {
+        uint32_t q = n / m, rest = n % m;
+        uint64_t lines = b + q * c;
+        n = m, m = rest, b = c, c = lines, right = !right;
+    }
+    if (m == 0) return (pair){{0, c}, {0, 0}};
+    uint32_t turns = (n - window) / m + 1;
+    int64_t size = (int64_t)n - (int64_t)turns * m;
+    uint64_t lines = b + turns * c;
+    if (right) return (pair){{-size, lines}, {m, c}};
+    return (pair){{-(int64_t)m, c}, {size, lines}};
+}
+
+// The first hit not below `start`, or the number of cells: a point is carried down the same divisions into the window.
+uint64_t NAME(first_hit)(run r, uint32_t period, uint64_t start) {
+    uint32_t window = r.window;
+    uint64_t row = start / window, from = start % window, line = r.first + row;
+    uint32_t d = (r.interval * line + window / 2) % period;
+    uint64_t place = from + (d + (period - from % period)) % period;
+    if (place < window) return row * window + place;
+    uint32_t n = period, m = r.interval % period;
+    uint64_t b = 0, c = 1;
+    int right = 1;
+    line++;
+    d = ((uint64_t)d + m) % period;
+    while (line <= r.last) {
+        if (d < window) return (line - r.first) * window + d;
+        if (m == 0) break;
+        if (d >= m && right) {
+            uint32_t turns = (n - d - 1) / m + 1;
+            d = d + (uint64_t)turns * m - n;
+            line += turns * c + b;
+        } else if (d >= m) {
+            uint32_t turns = (d - (m > window ? m : window)) / m + 1;
+            d -= turns * m;
+            line += turns * c;
+        }
+        uint32_t q = n / m, rest = n % m;
+        uint64_t lines = b + q * c;
+        n = m, m = rest, b = c, c = lines, right = !right;
+    }
+    return cells_of(r);
+}
+
+// What the walk goes by, worked out once a source: how far each step leads in offset and in cells, and where it may be taken.
+typedef struct {
+    int64_t left, right, low, high;
+    uint64_t left_cells, right_cells;
+} plan;
+
+static plan plan_of(run r, uint32_t period) {
+    uint32_t width = period < r.window ? period : r.window;
+    pair v = NAME(vectors)(period, r.interval % period, width);
+    if (v.right.line == 0) v.right = v.left;
+    int64_t edge = -(int64_t)(r.window / 2);
+    return (plan){v.left.offset, v.right.offset, edge - v.left.offset, edge + width - v.right.offset,
+                  v.left.line * r.window + v.left.offset, v.right.line * r.window + v.right.offset};
+}
+
+// Proposition 2: the first hit of the next line that has one.
+static inline void step(const plan *w, int64_t *i, uint64_t *x) {
+    if (*i >= w->low) {
+        *i += w->left, *x += w->left_cells;
+    } else if (*i < w->high) {
+        *i += w->right, *x += w->right_cells;
+    } else {
+        *i += w->left + w->right, *x += w->left_cells + w->right_cells;
+    }
+}
+
+// A source with a period below the window: each line's first distance is the last line's and the interval.
+static void add_rows(run r, uint32_t p, uint8_t weight, uint8_t *map) {
+    uint64_t start = ((uint64_t)r.interval * r.first + r.window / 2) % p, by = r.interval % p;
+    for (uint8_t *line = map, *end = map + cells_of(r); line < end; line += r.window) {
+        for (uint64_t x = start; x < r.window; x += p) line[x] = plus(line[x], weight);
+        start += by;
+        if (start >= p) start -= p;
+    }
+}
+
+static void add_hits(run r, uint32_t p, uint8_t weight, uint8_t *map) {
+    plan w = plan_of(r, p);
+    uint64_t all = cells_of(r), x = NAME(first_hit)(r, p, 0);
+    int64_t i = (int64_t)(x % r.window) - r.window / 2;
+    while (x < all) {
+        map[x] = plus(map[x], weight);
+        step(&w, &i, &x);
+    }
+}
+
+void NAME(walk)(run r, const uint32_t *periods, const uint32_t *weights, size_t n, uint8_t *map) {
+    for (size_t k = 0; k < n; k++) {
+        if (periods[k] < r.window)
+            add_rows(r, periods[k], weights[k], map);
+        else
+            add_hits(r, periods[k], weights[k], map);
+    }
+}
+
+// The hits not below `start` into the room; `next` is the first that did not fit, or the number of cells.
+size_t NAME(list)(run r, uint32_t period, uint64_t start, uint64_t *room, size_t length, uint64_t *next) {
+    plan w = plan_of(r, period);
+    uint64_t all = cells_of(r), cell = NAME(first_hit)(r, period, start), from = cell % r.window;
+    uint64_t x = cell - from + from % period, end = x - from % period + r.window;
+    int64_t i = (int64_t)(from % period) - r.window / 2;
+    size_t n = 0;
+    while (cell < all) {
+        for (; cell < end; cell += period) {
+            if (n == length) {
+                *next = cell;
+                return n;
+            }
+            room[n++] = cell;
+        }
+        step(&w, &i, &x);
+        cell = x;
+        end = x - (i + r.window / 2) + r.window;
+    }
+    *next = all;
+    return n;
+}
+
+// Numbers are stored as this machine has them: both kinds that this benchmark knows have the lowest byte first.
+static uint32_t check(const uint8_t *block) {
+    uint32_t sum = 1;
+    for (uint32_t k = 0; k < 508; k++) sum += (k + 1) * block[k];
+    return sum;
+}
+
+static void put_block(uint32_t number, const void *bytes, size_t size, uint8_t *block) {
+    memcpy(block, &number, 4);
+    memcpy(block + 4, bytes, size);
+    memset(block + 4 + size, 0, 504 - size);
+    uint32_t sum = check(block);
+    memcpy(block + 508, &sum, 4);
+}
+
+void NAME(save)(run r, const uint8_t *map, uint8_t *file) {
+    uint32_t heading[5] = {1, r.window, r.interval, r.first, r.last}, number = 0;
+    put_block(0, heading, sizeof heading, file);
+    for (uint64_t left = cells_of(r), size; left > 0; left -= size, map += size) {
+        size = left < 504 ? left : 504;
+        put_block(++number, map, size, file += 512);
+    }
+}
+
+// Whether a block has its number and its check, and zeros behind its bytes.
+static int is_block(uint32_t number, size_t size, const uint8_t *block) {
+    uint32_t found[2];
+    memcpy(&found[0], block, 4);
+    memcpy(&found[1], block + 508, 4);
+    if (found[0] != number || found[1] != check(block)) return 0;
+    for (size_t k = size; k < 504; k++)
+        if (block[4 + k]) return 0;
+    return 1;
+}
+
+// All blocks are judged before the first cell is filled.
+int NAME(read)(const uint8_t *file, uint64_t length, run *r, uint8_t *map) {
+    uint32_t heading[5];
+    memcpy(heading, file + 4, sizeof heading);
+    *r = (run){heading[1], heading[2], heading[3], heading[4]};
+    if (!is_block(0, 20, file) || heading[0] != 1 || length != file_of(*r)) return 0;
+    uint64_t all = cells_of(*r);
+    for (uint64_t at = 0, k = 1; at < all; at += 504, k++)
+        if (!is_block(k, all - at, file + 512 * k)) return 0;
+    for (uint64_t at = 0, k = 1; at < all; at += 504, k++) memcpy(map + at, file + 512 * k + 4, all - at < 504 ? all - at : 504);
+    return 1;
+}
