@@ -3,7 +3,7 @@
 use Prim.Native.Nat.{ℕ, _+_, _-_, _*_, _/_, _%_, _≤_, _<_}
 use native.Mathlib.Nat.{mod-lt, mod-le, div-add-mod', div-le-self, mul-div-cancel', mul-le-mul-right}
 use native.Mathlib.Omega.{arith}
-use mathlib.Core.Path.{_≡_, refl, ap, _∙_, subst}
+use mathlib.Core.Path.{_≡_, refl, ap, ap₂, _∙_, subst}
 use mathlib.Core.Bool.{true}
 use lib.IntN.{ℤ, pos, negℤ, _+ℤ_, _-ℤ_}
 use Rattle.signed.proofs.Parts.{parts, sum, neg-up, neg-dn}
@@ -136,6 +136,8 @@ module _ {run : Run} (v : Valid run) {source : Source} (s : ValidSource source) 
         left-cells = cells-left (left .line * run .window) A (left .offset) i (g .left-cells);
         right-offset = g .right-offset ∙ j;
         right-cells = cells-right (right .line * run .window) (right .offset) j (g .right-cells);
+        both-offset = g .both-offset ∙ ap₂ _+ℤ_ i j;
+        both-cells = g .both-cells;
         low = low-edge (left .offset) A (run .window / 2) i (g .low);
         high = high-edge (right .offset) (width run source) C (run .window / 2) (omega arith) j (g .high);
         from-short = omega arith;
@@ -185,6 +187,8 @@ module _ {run : Run} (v : Valid run) {source : Source} (s : ValidSource source) 
         left-cells = cells-left (only .line * run .window) 0 (only .offset) z (g .left-cells);
         right-offset = g .right-offset ∙ z;
         right-cells = cells-right (only .line * run .window) (only .offset) z (g .right-cells);
+        both-offset = g .both-offset ∙ ap₂ _+ℤ_ z z;
+        both-cells = g .both-cells;
         low = low-edge (only .offset) 0 (run .window / 2) z (g .low);
         high = high-edge (only .offset) (width run source) 0 (run .window / 2) (omega arith) z (g .high);
         from-short = omega arith;

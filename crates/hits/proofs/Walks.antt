@@ -112,9 +112,9 @@ left-of x z h A {d} e f l =
 right-of : (x z : ℤ) (h C : ℕ) {d : ℕ} → x +ℤ pos h ≡ pos d → z ≡ x +ℤ pos C → z ≡ pos (d + C) -ℤ pos h
 right-of x z h C {d} e f = omega (arith, parts, sum x (pos h), sum x (pos C), sum (pos (d + C)) (negℤ (pos h)), neg-up (pos h), neg-dn (pos h))
 
-across : (x y z : ℤ) (h A C : ℕ) {d : ℕ} → x +ℤ pos h ≡ pos d → y ≡ x +ℤ negℤ (pos A) → z ≡ y +ℤ pos C → A ≤ d + C → z ≡ pos (d + C - A) -ℤ pos h
-across x y z h A C {d} e f g l =
-    omega (arith, parts, sum x (pos h), sum x (negℤ (pos A)), neg-up (pos A), neg-dn (pos A), sum y (pos C), sum (pos (d + C - A)) (negℤ (pos h)), neg-up (pos h), neg-dn (pos h))
+across : (x z : ℤ) (h A C : ℕ) {d : ℕ} → x +ℤ pos h ≡ pos d → z ≡ x +ℤ (negℤ (pos A) +ℤ pos C) → A ≤ d + C → z ≡ pos (d + C - A) -ℤ pos h
+across x z h A C {d} e f l =
+    omega (arith, parts, sum x (pos h), sum x (negℤ (pos A) +ℤ pos C), sum (negℤ (pos A)) (pos C), neg-up (pos A), neg-dn (pos A), sum (pos (d + C - A)) (negℤ (pos h)), neg-up (pos h), neg-dn (pos h))
 
 pub near : (d h : ℕ) → d ≤ 4096 → h ≤ 4096 → (negℤ (pos 4096) ≤ℤ (pos d -ℤ pos h)) × ((pos d -ℤ pos h) ≤ℤ pos 4096)
 near d h a b =
@@ -131,6 +131,22 @@ near-fits z l h = omega (arith, parts, apart z, neg-dn (pos 4096), neg-up (pos 4
 pub fits-at : {z : ℤ} (d h : ℕ) → z ≡ pos d -ℤ pos h → d ≤ 4096 → h ≤ 4096 → SFits w64 z
 fits-at {z} d h e a b = let n = near d h a b in rw e (near-fits (pos d -ℤ pos h) (n .0) (n .1))
 
+-- two numbers that are small, and their sum, fit
+pub record Sums (x y : ℤ) : Type 0 where
+  pub one : SFits w64 x
+  pub other : SFits w64 y
+  pub both : SFits w64 (x +ℤ y)
+
+pub sums : (x y : ℤ) → (negℤ (pos 4096) ≤ℤ x) × (x ≤ℤ pos 4096) → (negℤ (pos 8192) ≤ℤ y) × (y ≤ℤ pos 8192) → Sums x y
+sums x y h k = record {
+  one = near-fits x (h .0) (h .1);
+  other = omega (arith, parts, k .0, k .1, apart y, neg-dn (pos 8192), neg-up (pos 8192));
+  both = omega (arith, parts, h .0, h .1, k .0, k .1, sum x y, apart x, apart y, apart (x +ℤ y), neg-dn (pos 4096), neg-up (pos 4096), neg-dn (pos 8192), neg-up (pos 8192));
+}
+
+pub wider : (z : ℤ) → (negℤ (pos 4096) ≤ℤ z) × (z ≤ℤ pos 4096) → (negℤ (pos 8192) ≤ℤ z) × (z ≤ℤ pos 8192)
+wider z h = (omega (arith, parts, h .0, neg-dn (pos 4096), neg-up (pos 4096), neg-dn (pos 8192), neg-up (pos 8192)), omega (arith, parts, h .1))
+
 -- the numbers of a walk and of the place where it stands
 pub record Near (walk : Walk) (at : Place) : Type 0 where
   pub offset : (negℤ (pos 4096) ≤ℤ at .offset) × (at .offset ≤ℤ pos 4096)
@@ -138,8 +154,10 @@ pub record Near (walk : Walk) (at : Place) : Type 0 where
   pub high : (negℤ (pos 4096) ≤ℤ walk .high) × (walk .high ≤ℤ pos 4096)
   pub left : (negℤ (pos 4096) ≤ℤ walk .left .offset) × (walk .left .offset ≤ℤ pos 4096)
   pub right : (negℤ (pos 4096) ≤ℤ walk .right .offset) × (walk .right .offset ≤ℤ pos 4096)
+  pub both : (negℤ (pos 8192) ≤ℤ walk .both .offset) × (walk .both .offset ≤ℤ pos 8192)
   pub left-cells : walk .left .cells ≤ 8796093018112
   pub right-cells : walk .right .cells ≤ 8796093022208
+  pub both-cells : walk .both .cells ≤ 2 ^ 44
 
 pub small : {run : Run} {source : Source} {walk : Walk} {at : Place} → Valid run → ValidSource source → Leads run source walk → Stands run source at → Near walk at
 unfolding offsetOf
@@ -159,8 +177,10 @@ small {run} {source} {walk} {at} v s l here =
       high = rw (l .high) (near (l .below) (run .window / 2) (omega (arith, l .below-short)) half);
       left = rw (l .left-offset) (omega (arith, parts, neg-dn (pos 4096), neg-up (pos 4096), neg-dn (pos (l .A)), neg-up (pos (l .A))), omega (arith, parts, neg-dn (pos (l .A)), neg-up (pos (l .A))));
       right = rw (l .right-offset) (omega (arith, parts, neg-dn (pos 4096), neg-up (pos 4096)), omega (arith, parts));
+      both = rw (l .both-offset) (omega (arith, parts, neg-dn (pos 8192), neg-up (pos 8192), neg-dn (pos (l .A)), neg-up (pos (l .A)), sum (negℤ (pos (l .A))) (pos (l .C))), omega (arith, parts, neg-dn (pos (l .A)), neg-up (pos (l .A)), sum (negℤ (pos (l .A))) (pos (l .C))));
       left-cells = omega (arith, l .left-cells);
       right-cells = omega (arith, l .right-cells);
+      both-cells = omega (arith, l .left-cells, l .right-cells, l .both-cells);
     }
 
 -- ---- the three cases
@@ -169,58 +189,25 @@ module _ {walk : Walk} {at : Place} (w : Walking walk at) where
   sizes : Near walk at
   sizes = small (w .valid) (w .source-valid) (w .leads) (w .stands)
 
-  pub movable-left : Movable at (walk .left)
-  movable-left =
-      let n = sizes in
+  -- a step that is small may be taken
+  movable : (step : Step) → (negℤ (pos 8192) ≤ℤ step .offset) × (step .offset ≤ℤ pos 8192) → step .cells ≤ 2 ^ 44 → Movable at step
+  movable step o c =
       let few = cells-few (w .valid) in
       let i = w .inside in
-      record {
-        offset-low = omega (arith, parts, n .offset .0, neg-dn (pos 4096), neg-up (pos 4096), neg-dn (pos 16384), neg-up (pos 16384));
-        offset-high = omega (arith, parts, n .offset .1);
-        step-low = n .left .0;
-        step-high = n .left .1;
-        cell = omega arith;
-        cells = omega (arith, n .left-cells);
-      }
+      record { offset-low = sizes .offset .0; offset-high = sizes .offset .1; step-low = o .0; step-high = o .1; cell = omega arith; cells = c }
+
+  pub movable-left : Movable at (walk .left)
+  movable-left = movable (walk .left) (wider (walk .left .offset) (sizes .left)) (omega (arith, sizes .left-cells))
 
   pub movable-right : Movable at (walk .right)
-  movable-right =
-      let n = sizes in
-      let few = cells-few (w .valid) in
-      let i = w .inside in
-      record {
-        offset-low = omega (arith, parts, n .offset .0, neg-dn (pos 4096), neg-up (pos 4096), neg-dn (pos 16384), neg-up (pos 16384));
-        offset-high = omega (arith, parts, n .offset .1);
-        step-low = n .right .0;
-        step-high = n .right .1;
-        cell = omega arith;
-        cells = omega (arith, n .right-cells);
-      }
+  movable-right = movable (walk .right) (wider (walk .right .offset) (sizes .right)) (omega (arith, sizes .right-cells))
 
-  pub movable-both : {mid : Place} → Moved at (walk .left) mid → Movable mid (walk .right)
-  movable-both {mid} m =
-      let n = sizes in
-      let few = cells-few (w .valid) in
-      let i = w .inside in
-      let o = m .offset in
-      let s = sum (at .offset) (walk .left .offset) in
-      let l = n .left-cells in
-      let c = m .cell in
-      record {
-        offset-low = omega (arith, parts, n .offset .0, n .left .0, neg-dn (pos 4096), neg-up (pos 4096), neg-dn (pos 16384), neg-up (pos 16384));
-        offset-high = omega (arith, parts, n .offset .1, n .left .1);
-        step-low = n .right .0;
-        step-high = n .right .1;
-        cell = omega arith;
-        cells = omega (arith, n .right-cells);
-      }
+  pub movable-both : Movable at (walk .both)
+  movable-both = movable (walk .both) (sizes .both) (sizes .both-cells)
 
   -- no step leads far
-  pub one-small : {step : Step} {to : Place} → step .cells ≤ 2 ^ 44 → Moved at step to → to .cell < 2 ^ 46
-  one-small h m = omega (arith, m .cell, cells-few (w .valid), w .inside)
-
-  pub two-small : {mid to : Place} → Moved at (walk .left) mid → Moved mid (walk .right) to → to .cell < 2 ^ 46
-  two-small m m′ = omega (arith, m .cell, m′ .cell, cells-few (w .valid), w .inside, sizes .left-cells, sizes .right-cells)
+  pub lands-low : {step : Step} {to : Place} → Movable at step → Moved at step to → to .cell < 2 ^ 46
+  lands-low h m = omega (arith, m .cell, h .cell, h .cells)
 
 module _ {run : Run} (v : Valid run) {source : Source} (s : ValidSource source) {walk : Walk} (l : Leads run source walk) {at : Place} (here : Stands run source at) where
   -- the distance at which the walk stands, by its offset
@@ -268,10 +255,10 @@ module _ {run : Run} (v : Valid run) {source : Source} (s : ValidSource source) 
       (omega (arith, m .cell, l .right-cells, div-add-mod' (at .cell) (run .window)))
       (right-of (at .offset) (to .offset) (run .window / 2) (l .C) by-distance (rw (l .right-offset) at (m .offset)))
 
-  pub step-both : {mid to : Place} → leZ (toZ w64 (ofZ w64 (walk .low))) (toZ w64 (ofZ w64 (at .offset))) ≡ false → ltZ (toZ w64 (ofZ w64 (at .offset))) (toZ w64 (ofZ w64 (walk .high))) ≡ false → Moved at (walk .left) mid → Moved mid (walk .right) to → NextLine run source at to
-  step-both {mid} {to} t u m m′ =
+  pub step-both : {to : Place} → leZ (toZ w64 (ofZ w64 (walk .low))) (toZ w64 (ofZ w64 (at .offset))) ≡ false → ltZ (toZ w64 (ofZ w64 (at .offset))) (toZ w64 (ofZ w64 (walk .high))) ≡ false → Moved at (walk .both) to → NextLine run source at to
+  step-both {to} t u m =
       let g = l .goes-both (at .cell % run .window) distance-in (low-false t) (high-false u) in
       let a = g .0 in
       landed v s to here (g .1)
-      (omega (arith, m .cell, m′ .cell, l .left-cells, l .right-cells, div-add-mod' (at .cell) (run .window)))
-      (across (at .offset) (mid .offset) (to .offset) (run .window / 2) (l .A) (l .C) by-distance (rw (l .left-offset) at (m .offset)) (rw (l .right-offset) at (m′ .offset)) a)
+      (omega (arith, m .cell, l .both-cells, l .left-cells, l .right-cells, div-add-mod' (at .cell) (run .window)))
+      (across (at .offset) (to .offset) (run .window / 2) (l .A) (l .C) by-distance (rw (l .both-offset) at (m .offset)) a)

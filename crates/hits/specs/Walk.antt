@@ -22,21 +22,32 @@ pub record Small (v : Vector) (window : ℕ) : Type 0 where
   pub left : negℤ (pos window) ≤ℤ v .offset
   pub right : v .offset ≤ℤ pos window
 
+-- Two steps whose sums stay far from the ends of the numbers.
+pub record Joinable (one other : Step) : Type 0 where
+  pub one-low : negℤ (pos 4096) ≤ℤ one .offset
+  pub one-high : one .offset ≤ℤ pos 4096
+  pub other-low : negℤ (pos 4096) ≤ℤ other .offset
+  pub other-high : other .offset ≤ℤ pos 4096
+  pub one-cells : one .cells ≤ 2 ^ 44
+  pub other-cells : other .cells ≤ 2 ^ 44
+
 -- A walk that goes by the vectors `left` and `right` in a window that begins at A = -I/2 and is `width` wide.
 pub record GoesBy (left right : Vector) (window width : ℕ) (walk : Walk) : Type 0 where
   pub left-offset : walk .left .offset ≡ left .offset
   pub left-cells : pos (walk .left .cells) ≡ pos (left .line * window) +ℤ left .offset
   pub right-offset : walk .right .offset ≡ right .offset
   pub right-cells : pos (walk .right .cells) ≡ pos (right .line * window) +ℤ right .offset
+  pub both-offset : walk .both .offset ≡ left .offset +ℤ right .offset
+  pub both-cells : walk .both .cells ≡ walk .left .cells + walk .right .cells
   pub low : walk .low ≡ (pos 0 -ℤ pos (window / 2)) -ℤ left .offset
   pub high : walk .high ≡ (pos width -ℤ pos (window / 2)) -ℤ right .offset
 
 -- A place and a step whose sums stay far from the ends of the numbers.
 pub record Movable (at : Place) (step : Step) : Type 0 where
-  pub offset-low : negℤ (pos 16384) ≤ℤ at .offset
-  pub offset-high : at .offset ≤ℤ pos 16384
-  pub step-low : negℤ (pos 4096) ≤ℤ step .offset
-  pub step-high : step .offset ≤ℤ pos 4096
+  pub offset-low : negℤ (pos 4096) ≤ℤ at .offset
+  pub offset-high : at .offset ≤ℤ pos 4096
+  pub step-low : negℤ (pos 8192) ≤ℤ step .offset
+  pub step-high : step .offset ≤ℤ pos 8192
   pub cell : at .cell ≤ 2 ^ 45
   pub cells : step .cells ≤ 2 ^ 44
 
@@ -62,6 +73,8 @@ pub record Leads (run : Run) (source : Source) (walk : Walk) : Type 0 where
   pub left-cells : walk .left .cells + A ≡ β * run .window
   pub right-offset : walk .right .offset ≡ pos C
   pub right-cells : walk .right .cells ≡ δ * run .window + C
+  pub both-offset : walk .both .offset ≡ negℤ (pos A) +ℤ pos C
+  pub both-cells : walk .both .cells ≡ walk .left .cells + walk .right .cells
   pub low : walk .low ≡ pos from -ℤ pos (run .window / 2)
   pub high : walk .high ≡ pos below -ℤ pos (run .window / 2)
   pub from-short : from ≤ run .window

@@ -34,14 +34,14 @@ pub enum Found {
     Nothing,
 }
 
-// Inner step. The larger of two numbers.
+// The larger of two numbers.
 fn wider(a: u64, b: u64) -> u64
     ensures { λ r. ⌜ r ≡ max a b ⌝ }
 {
     if a < b { b } else { a }
 }
 
-// Inner step. How often a step has to be taken to go further than `room`.
+// How often a step has to be taken to go further than `room`.
 fn turns_past(room: u64, step: u64) -> u64
     requires { ⌜ (0 < step) × (room < 2147483648) ⌝ }
     ensures { λ r. ⌜ Above room step r ⌝ }
@@ -50,7 +50,7 @@ fn turns_past(room: u64, step: u64) -> u64
 }
 
 impl Stage {
-    // Inner step. The next two vectors: v, and u with v added as often as m goes into n.
+    // The next two vectors: v, and u with v added as often as m goes into n.
     fn next(self) -> Stage
         requires { ⌜ Division self × (0 < self .m) ⌝ }
         ensures { λ r. ⌜ (r .m < self .m) × (r .n ≡ self .m) × ((p q : ℕ) → Divides p q self → Divides p q r) ⌝ }
@@ -64,7 +64,7 @@ impl Stage {
         }
     }
 
-    // Inner step. A point nearer to the window, with none passed over: where v moves right, v is added until the point is n
+    // A point nearer to the window, with none passed over: where v moves right, v is added until the point is n
     // or further right, and then u once, which leads to the first point nearer than this one; where v moves left, v is added
     // until the point is nearer than m or the window's width.
     fn approach(self, at: Point, window: u64) -> Point
@@ -89,21 +89,25 @@ impl Stage {
     }
 }
 
-// Inner step. The first point within the window from `at` on, down the division sequence.
-fn seek(stage: Stage, at: Point, window: u64, last: u64) -> Found
-    requires { ⌜ Seeking stage at window last ⌝ }
-    ensures { λ r. ⌜ ((p q : ℕ) → Divides p q stage → Sought p q window last at r) ⌝ }
+// The first point within the window from `start` on: the point is brought nearer stage by stage, down the
+// division sequence, until it is within the window, past the last line, or the sequence ends.
+fn seek(begin: Stage, start: Point, window: u64, last: u64) -> Found
+    requires { ⌜ Seeking begin start window last ⌝ }
+    ensures { λ r. ⌜ ((p q : ℕ) → Divides p q begin → Sought p q window last start r) ⌝ }
 {
-    if last < at.line {
-        return Found::Nothing;
+    let mut stage = begin;
+    let mut at = start;
+    while at.line <= last {
+        if at.distance < window {
+            return Found::At(at);
+        }
+        if stage.m == 0 {
+            return Found::Nothing;
+        }
+        at = stage.approach(at, window);
+        stage = stage.next();
     }
-    if at.distance < window {
-        return Found::At(at);
-    }
-    if stage.m == 0 {
-        return Found::Nothing;
-    }
-    seek(stage.next(), stage.approach(at, window), window, last)
+    Found::Nothing
 }
 
 // Inner step. How far right of the window's left edge the source's first point on a line is; it may lie past the window.
@@ -115,7 +119,7 @@ pub fn distance(run: Run, source: Source, line: u64) -> u64
     (run.interval as u64 * line + run.window as u64 / 2) % source.period as u64
 }
 
-// Inner step. The first hit on this line or a later one, or the number of cells if there is none.
+// The first hit on this line or a later one, or the number of cells if there is none.
 fn find_from_line(run: Run, source: Source, line: u64) -> u64
     requires { ⌜ Valid run × ValidSource source × (run .first ≤ line) × (line ≤ run .last + 1) ⌝ }
     ensures { λ r. ⌜ FirstFrom run source ((line - run .first) * run .window) r ⌝ }

@@ -5,10 +5,10 @@ use scope::Source;
 use vectors::Basis;
 use vectors::Vector;
 ghost use mathlib.Core.Path.{_≡_};
-ghost use Prim.Native.Nat.{_*_, _/_, _≤_, _<_, _^_, min};
+ghost use Prim.Native.Nat.{_+_, _*_, _/_, _≤_, _<_, _^_, min};
 ghost use lib.IntN.{pos, _+ℤ_, _-ℤ_};
 ghost use Rattle.scope.specs.Run.{Valid, ValidSource, cellsOf};
-ghost use Rattle.hits.specs.Walk.{Small, GoesBy, Begins, Leads, Movable, Moved, Walking, Walks};
+ghost use Rattle.hits.specs.Walk.{Small, Joinable, GoesBy, Begins, Leads, Movable, Moved, Walking, Walks};
 
 // A step of the walk: so many ticks of offset, so many cells on.
 pub struct Step {
@@ -22,18 +22,20 @@ pub struct Place {
     pub cell: u64,
 }
 
-// What the walk goes by: the steps (α, β) and (γ, δ), and from where and up to where each stays among the first hits of lines.
-// These lie in a window that begins at A = -I/2 and is as wide as the run's, or as the period where that is less.
+// What the walk goes by: the steps (α, β) and (γ, δ), the two as one, and from where and up to where each stays among the
+// first hits of lines. These lie in a window that begins at A = -I/2 and is as wide as the run's, or as the period where that
+// is less.
 pub struct Walk {
     pub left: Step,
     pub right: Step,
+    pub both: Step,
     // A - α: from this offset on the step to the left stays in it
     pub low: i64,
     // A + width - γ: below this offset the step to the right does
     pub high: i64,
 }
 
-// Inner step. A vector of the lattice as a step: each of its lines has a window's width of cells.
+// A vector of the lattice as a step: each of its lines has a window's width of cells.
 fn step_of(v: Vector, window: u32) -> Step
     requires { ⌜ Small v window ⌝ }
     ensures { λ r. ⌜ (r .offset ≡ v .offset) × (pos (r .cells) ≡ pos (v .line * window) +ℤ v .offset) ⌝ }
@@ -52,20 +54,36 @@ pub fn offset_at(distance: u64, window: u32) -> i64
     distance as i64 - (window / 2) as i64
 }
 
-// Inner step. The walk that goes by two vectors, in a window that begins at A and is `width` wide.
+impl Step {
+    // The two steps as one.
+    fn and(self, other: Step) -> Step
+        requires { ⌜ Joinable self other ⌝ }
+        ensures { λ r. ⌜ (r .offset ≡ self .offset +ℤ other .offset) × (r .cells ≡ self .cells + other .cells) ⌝ }
+    {
+        Step {
+            offset: self.offset + other.offset,
+            cells: self.cells + other.cells,
+        }
+    }
+}
+
+// The walk that goes by two vectors, in a window that begins at A and is `width` wide.
 fn walk_by(left: Vector, right: Vector, window: u32, width: u32) -> Walk
     requires { ⌜ Small left window × Small right window × (width ≤ window) ⌝ }
     ensures { λ r. ⌜ GoesBy left right window width r ⌝ }
 {
+    let to_left = step_of(left, window);
+    let to_right = step_of(right, window);
     Walk {
-        left: step_of(left, window),
-        right: step_of(right, window),
+        left: to_left,
+        right: to_right,
+        both: to_left.and(to_right),
         low: offset_at(0, window) - left.offset,
         high: offset_at(width as u64, window) - right.offset,
     }
 }
 
-// Inner step. The smaller of two numbers.
+// The smaller of two numbers.
 fn narrower(a: u32, b: u32) -> u32
     ensures { λ r. ⌜ r ≡ min a b ⌝ }
 {
@@ -102,7 +120,7 @@ pub fn place_of(run: Run, source: Source, cell: u64) -> Place
 }
 
 impl Place {
-    // Inner step. The place a step on.
+    // The place a step on.
     fn moved(self, step: Step) -> Place
         requires { ⌜ Movable self step ⌝ }
         ensures { λ r. ⌜ Moved self step r ⌝ }
@@ -126,6 +144,6 @@ impl Walk {
         if at.offset < self.high {
             return at.moved(self.right);
         }
-        at.moved(self.left).moved(self.right)
+        at.moved(self.both)
     }
 }

@@ -6,6 +6,14 @@ use Rattle.lattice.proofs.Stage.{Side, left, right, other, Stage}
 use Rattle.vectors.specs.declared.Vector.{Vector}
 use Rattle.vectors.specs.declared.Turn.{Turn}
 
+-- The vector of two numbers.
+abbrev pub vector : ℤ → ℕ → Vector
+vector offset line = record { offset = offset; line = line }
+
+-- Two successive vectors.
+abbrev pub turn : Vector → Vector → Turn
+turn before last = record { before = before; last = last }
+
 -- u plus q times v.
 abbrev pub plusTimes : Vector → ℕ → Vector → Vector
 plusTimes u q v = record { offset = u .offset +ℤ pos q *ℤ v .offset; line = u .line + q * v .line }

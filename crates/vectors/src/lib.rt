@@ -8,7 +8,7 @@ ghost use lib.IntN.{natAbs, _+ℤ_, _*ℤ_};
 ghost use mir.Syntax.{w64};
 ghost use mir.Val.{SFits};
 ghost use Rattle.vectors.specs.Promise.{VectorsPromise, Spans, Askable};
-ghost use Rattle.vectors.specs.Sequence.{Reaches, plusTimes, nextOf, partnerOf, Ready, Divided, Open};
+ghost use Rattle.vectors.specs.Sequence.{vector, turn, Reaches, plusTimes, nextOf, partnerOf, Ready, Divided, Open};
 
 // A vector of the lattice: so many ticks of offset, to the right or (below 0) to the left, and so many lines on.
 pub struct Vector {
@@ -79,16 +79,47 @@ fn next(before: Vector, last: Vector) -> Vector
     plus_times(before, size(before.offset) / size(last.offset), last)
 }
 
+// The division sequence carried on in place, from two successive vectors (i, j) and (k, l) to the first that stays within the
+// window and the one before it. They are lent number by number: so the recursion is compiled into a loop over registers.
+// The size of k falls at each call, so that the recursion ends, at the latest with k = 0.
+fn divide(i: &mut i64, j: &mut u64, k: &mut i64, l: &mut u64, window: u64)
+    requires { ⌜ Ready window (vector (now i) (now j)) (vector (now k) (now l)) ⌝ }
+    ensures { λ _. ⌜ Divided window (vector (now (i .entry)) (now (j .entry))) (vector (now (k .entry)) (now (l .entry))) (turn (vector (now (i .exit)) (now (j .exit))) (vector (now (k .exit)) (now (l .exit)))) ⌝ }
+{
+    let offset = *k;
+    let line = *l;
+    if size(offset) < window {
+        return;
+    }
+    let after = next(
+        Vector {
+            offset: *i,
+            line: *j,
+        },
+        Vector { offset, line },
+    );
+    *i = offset;
+    *j = line;
+    let offset = after.offset;
+    *k = offset;
+    *l = after.line;
+    divide(i, j, k, l, window);
+}
+
 // The first vector of the division sequence from `last` on that stays within the window, and the one before it.
-// The size of the offset falls from each vector to the next, so that the recursion ends, at the latest with offset 0.
-fn divide(before: Vector, last: Vector, window: u64) -> Turn
+fn stop(before: Vector, last: Vector, window: u64) -> Turn
     requires { ⌜ Ready window before last ⌝ }
     ensures { λ t. ⌜ Divided window before last t ⌝ }
 {
-    if size(last.offset) < window {
-        return Turn { before, last };
+    let mut i = before.offset;
+    let mut j = before.line;
+    let mut k = last.offset;
+    let mut l = last.line;
+    divide(&mut i, &mut j, &mut k, &mut l, window);
+    Turn {
+        before: Vector { offset: i, line: j },
+        last: Vector { offset: k, line: l },
     }
-    divide(last, next(before, last), window)
 }
 
 // The vector that makes a pair with the last one: the one before it, plus the last just so often that it comes within the window.
@@ -114,7 +145,7 @@ pub fn find_basis(period: u32, remainder: u32, window: u32) -> Basis
         offset: -(period as i64),
         line: 0,
     };
-    let turn = divide(
+    let turn = stop(
         start,
         Vector {
             offset: remainder as i64,

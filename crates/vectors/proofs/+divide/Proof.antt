@@ -3,9 +3,13 @@
 use mathlib.Core.Path.{_≡_, ap, _∙_}
 use Prim.Native.Nat.{ℕ, _≤_, _<_}
 use lib.IntN.{natAbs}
+use denote.Ref.{now}
+use mir.Syntax.{w64}
+use mir.Val.{toZ, ofZ}
 use mir.Facts.{toZ-ofZ}
 use borrow.Fn.Kinds.{In}
 use borrow.Fn.PlainCycle.{Measures, is, falls, and}
+use Rattle.vectors.specs.Sequence.{vector, nextOf}
 use Rattle.vectors.proofs.Sequence as Sequence
 use Rattle.vectors.proofs.divide.Reads as divide
 use Rattle.vectors.proofs.divide.Kinds as divide-kinds
@@ -15,48 +19,65 @@ use Rattle.vectors.proofs.size.Reads as size-reads
 use Rattle.vectors.proofs.+divide.{statement}
 use Rattle.vectors.proofs.+divide.Tie.{close}
 
-abbrev μ-divide : Measures 0 divide-kinds.ps ℕ
-μ-divide κs a = natAbs (a .1 .0 .offset)
+abbrev μ-divide : Measures 4 divide-kinds.ps ℕ
+μ-divide κs a = natAbs (now (a .1 .1 .0))
 
-abbrev divide-at : ℕ → In 0 divide-kinds.ps
-divide-at t = and 0 divide-kinds.ps (is 0 divide-kinds.ps μ-divide t) divide.Pre
+abbrev divide-at : ℕ → In 4 divide-kinds.ps
+divide-at t = and 4 divide-kinds.ps (is 4 divide-kinds.ps μ-divide t) divide.Pre
 
-abbrev divide-below : ℕ → In 0 divide-kinds.ps
-divide-below t = and 0 divide-kinds.ps (falls 0 divide-kinds.ps _<_ μ-divide t) divide.Pre
+abbrev divide-below : ℕ → In 4 divide-kinds.ps
+divide-below t = and 4 divide-kinds.ps (falls 4 divide-kinds.ps _<_ μ-divide t) divide.Pre
 
 abbrev claims : ℕ → lts.Claims
 claims t = (size-reads.Asked, size-reads.Learnt, next-reads.Asked, next-reads.Learnt, divide-below t, divide.Post)
 
 module _ (t : ℕ) where
+  -- the two offsets as they are read
+  i-read : (c : lts.Start (claims t) (divide-at t) divide.Post) → toZ w64 (ofZ w64 (now (c .args .i))) ≡ now (c .args .i)
+  i-read c = toZ-ofZ (Sequence.held-before (c .pre .1 .at) (c .pre .1 .small))
+
+  k-read : (c : lts.Start (claims t) (divide-at t) divide.Post) → toZ w64 (ofZ w64 (now (c .args .k))) ≡ now (c .args .k)
+  k-read c = toZ-ofZ (Sequence.held-last (c .pre .1 .at) (c .pre .1 .small))
+
   size-requires : lts.Need-size-requires (claims t) (divide-at t) divide.Post
   size-requires c κs = tt
 
   -- the size that is tested is that of the offset
-  size-is : (c : lts.After-size (claims t) (divide-at t) divide.Post) → c .size .result ≡ natAbs (c .before .before .args .last .offset)
-  size-is c =
-      let ready = c .before .before .pre .1 in
-      c .size .ensures ∙ ap natAbs (toZ-ofZ (Sequence.held-last (ready .at) (ready .small)))
+  size-is : (c : lts.After-size (claims t) (divide-at t) divide.Post) → c .size .result ≡ natAbs (now (c .before .before .before .args .k))
+  size-is c = c .size .ensures ∙ ap natAbs (k-read (c .before .before .before))
 
   returns : lts.Need-returns (claims t) (divide-at t) divide.Post
-  returns c p r h = record { at = h; within = rw (size-is (c .before)) at (c .if1 .taken); past = c .before .before .before .pre .1 .past }
+  returns c p r h = record { at = h; within = rw (size-is (c .before)) at (c .if1 .taken); past = c .before .before .before .before .pre .1 .past }
 
-  -- past the test, `last` reaches past the window
-  past : (c : lts.Else1 (claims t) (divide-at t) divide.Post) → c .before .before .before .args .window ≤ natAbs (c .before .before .before .args .last .offset)
+  -- past the test, the last vector reaches past the window
+  past : (c : lts.Else1 (claims t) (divide-at t) divide.Post) → c .before .before .before .before .args .window ≤ natAbs (now (c .before .before .before .before .args .k))
   past c = rw (size-is (c .before)) at (c .if1 .left)
 
   next-requires : lts.Need-next-requires (claims t) (divide-at t) divide.Post
-  next-requires c κs = Sequence.goes-on (c .before .before .before .pre .1) (past c)
+  next-requires c κs =
+      let e = c .before .before in
+      let s = e .before .before .before .before in
+      rw (i-read s, k-read s) (Sequence.goes-on (s .pre .1) (past e))
+
+  -- the vector after the last
+  after-is : (c : lts.After-next (claims t) (divide-at t) divide.Post) → let s = c .before .before .before .before .before .before .before .args in c .next .result ≡ nextOf (vector (now (s .i)) (now (s .j))) (vector (now (s .k)) (now (s .l)))
+  after-is c = let s = c .before .before .before .before .before .before .before in rw (i-read s, k-read s) at (c .next .ensures)
 
   divide-requires : lts.Need-divide-requires (claims t) (divide-at t) divide.Post
   divide-requires c κs =
-      let pre = c .before .before .before .before .pre in
-      let next = Sequence.ready (pre .1) (past (c .before)) in
-      rw (c .next .ensures) (rw (← (pre .0)) (Sequence.falls (next .at)), next)
+      let n = c .before .before .before .before .before in
+      let e = n .before .before .before in
+      let s = e .before .before .before .before in
+      let next = Sequence.ready (s .pre .1) (past e) in
+      rw (k-read s, after-is n, toZ-ofZ (Sequence.held-last (next .at) (next .small))) (rw (← (s .pre .0)) (Sequence.falls (next .at)), next)
 
   returns-2 : lts.Need-returns-2 (claims t) (divide-at t) divide.Post
   returns-2 c p r h =
-      let d = c .before .before in
-      c .divide .ensures p r (rw (c .before .next .ensures) (Sequence.onward h (Sequence.goes-on (d .before .before .before .pre .1) (past d) .some)))
+      let n = c .before .before .before .before .before .before in
+      let e = n .before .before .before in
+      let s = e .before .before .before .before in
+      let next = Sequence.ready (s .pre .1) (past e) in
+      c .divide .ensures p r (rw (k-read s, after-is n, toZ-ofZ (Sequence.held-last (next .at) (next .small))) (Sequence.onward h (Sequence.goes-on (s .pre .1) (past e) .some)))
 
 pub +divide-spec : {M : Type 1} → statement M
 +divide-spec =

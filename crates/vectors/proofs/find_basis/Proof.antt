@@ -45,16 +45,16 @@ sub-t10 c = begun c .fits
 cast-t9-2 : tie.Need-cast-t9-2
 cast-t9-2 c = search needs
 
-divide-requires : tie.Need-divide-requires
-divide-requires c κs = let b = begun c in rw (b .turned, b .remainder) (begin (c .pre))
+stop-requires : tie.Need-stop-requires
+stop-requires c κs = let b = begun c in rw (b .turned, b .remainder) (begin (c .pre))
 
 -- where the sequence stops
-stopped : (c : tie.After-divide) → Stopped (c .before .args .period) (c .before .args .remainder) (c .before .args .window) (c .divide .result)
+stopped : (c : tie.After-stop) → Stopped (c .before .args .period) (c .before .args .remainder) (c .before .args .window) (c .stop .result)
 stopped c =
     let b = begun (c .before) in
-    c .divide .ensures (c .before .args .period) (c .before .args .remainder) (rw (b .turned, b .remainder) (first-two (c .before .pre .remainder)))
+    c .stop .ensures (c .before .args .period) (c .before .args .remainder) (rw (b .turned, b .remainder) (first-two (c .before .pre .remainder)))
 
-fits : (c : tie.After-divide) → SFits w64 (c .divide .result .last .offset)
+fits : (c : tie.After-stop) → SFits w64 (c .stop .result .last .offset)
 fits c = let small = c .before .pre .small in held-last (stopped c .at) (omega arith)
 
 returns : tie.Need-returns
@@ -63,7 +63,7 @@ returns c =
     single (stopped d) (sym (toZ-ofZ (fits d)) ∙ ap (toZ w64) (c .if1 .taken))
 
 -- past the test the offset is not 0
-unlike : (c : tie.Else1) → Open (c .before .before .before .before .before .before .args .window) (c .before .before .before .before .before .divide .result .before) (c .before .before .before .before .before .divide .result .last)
+unlike : (c : tie.Else1) → Open (c .before .before .before .before .before .before .args .window) (c .before .before .before .before .before .stop .result .before) (c .before .before .before .before .before .stop .result .last)
 unlike c =
     let d = c .before .before .before .before .before in
     partner-left (stopped d) (d .before .pre .small) (λ e. c .if1 .left (ap (ofZ w64) e))
@@ -88,4 +88,4 @@ returns-3 c =
 pub find-basis-spec : {M : Type 1} → statement M
 find-basis-spec =
     tie.close
-    (tie.spec cast-t9 sub-t10 cast-t9-2 divide-requires returns partner-requires returns-2 returns-3)
+    (tie.spec cast-t9 sub-t10 cast-t9-2 stop-requires returns partner-requires returns-2 returns-3)

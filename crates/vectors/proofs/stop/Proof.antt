@@ -1,0 +1,26 @@
+-- `vectors::stop` meets its contract: the numbers that it lends are those of the two vectors. Assumes nothing.
+use borrow.Author.Needs.{needs}
+use Prim.Native.Nat.{ℕ}
+use mir.Facts.{toZ-ofZ}
+use Rattle.vectors.specs.Sequence.{vector, turn, Successive, Stopped}
+use Rattle.vectors.proofs.Sequence.{held-before, held-last}
+use Rattle.vectors.proofs.stop.Statement.{statement}
+use Rattle.vectors.proofs.stop.Tie as tie
+
+divide-requires : tie.Need-divide-requires
+divide-requires c κs = search needs
+
+-- what is lent is where the division begins, and what comes back is where it stops
+divided : (c : tie.After-divide) (p r : ℕ) → let s = c .before .before .before .before .before .before .before .args in Successive p r (s .before) (s .last) → Stopped p r (s .window) (turn (vector (c .divide .last .0) (c .divide .last .1 .0)) (vector (c .divide .last .1 .1 .0) (c .divide .last .1 .1 .1 .0)))
+divided c p r h =
+    let pre = c .before .before .before .before .before .before .before .pre in
+    c .divide .ensures p r (rw (toZ-ofZ (held-before (pre .at) (pre .small)), toZ-ofZ (held-last (pre .at) (pre .small))) h)
+
+returns : tie.Need-returns
+returns c p r h =
+    let pre = c .before .before .before .before .before .before .before .pre in
+    let at = divided c (pre .p) (pre .r) (pre .at) .at in
+    rw (toZ-ofZ (held-before at (pre .small)), toZ-ofZ (held-last at (pre .small))) (divided c p r h)
+
+pub stop-spec : {M : Type 1} → statement M
+stop-spec = tie.close (tie.spec divide-requires returns)
