@@ -8,7 +8,7 @@ ghost use mathlib.Core.Path.{_≡_};
 ghost use Prim.Native.Nat.{_*_, _/_, _≤_, _<_, _^_, min};
 ghost use lib.IntN.{pos, _+ℤ_, _-ℤ_};
 ghost use Rattle.scope.specs.Run.{Valid, ValidSource, cellsOf};
-ghost use Rattle.hits.specs.Walk.{Small, GoesBy, Begins, Leads, Movable, Moved, Walking, Walks};
+ghost use Rattle.hits.specs.Walk.{Short, GoesBy, Begins, Leads, Movable, Moved, Walking, Walks};
 
 // A step of the walk: so many ticks of offset, so many cells on.
 pub struct Step {
@@ -33,9 +33,9 @@ pub struct Walk {
     pub high: i64,
 }
 
-// Inner step. A vector of the lattice as a step: each of its lines has a window's width of cells.
+// A vector of the lattice as a step: each of its lines has a window's width of cells.
 fn step_of(v: Vector, window: u32) -> Step
-    requires { ⌜ Small v window ⌝ }
+    requires { ⌜ Short v window ⌝ }
     ensures { λ r. ⌜ (r .offset ≡ v .offset) × (pos (r .cells) ≡ pos (v .line * window) +ℤ v .offset) ⌝ }
 {
     Step {
@@ -52,9 +52,9 @@ pub fn offset_at(distance: u64, window: u32) -> i64
     distance as i64 - (window / 2) as i64
 }
 
-// Inner step. The walk that goes by two vectors, in a window that begins at A and is `width` wide.
+// The walk that goes by two vectors, in a window that begins at A and is `width` wide.
 fn walk_by(left: Vector, right: Vector, window: u32, width: u32) -> Walk
-    requires { ⌜ Small left window × Small right window × (width ≤ window) ⌝ }
+    requires { ⌜ Short left window × Short right window × (width ≤ window) ⌝ }
     ensures { λ r. ⌜ GoesBy left right window width r ⌝ }
 {
     Walk {
@@ -65,7 +65,7 @@ fn walk_by(left: Vector, right: Vector, window: u32, width: u32) -> Walk
     }
 }
 
-// Inner step. The smaller of two numbers.
+// The smaller of two numbers.
 fn narrower(a: u32, b: u32) -> u32
     ensures { λ r. ⌜ r ≡ min a b ⌝ }
 {
@@ -102,7 +102,7 @@ pub fn place_of(run: Run, source: Source, cell: u64) -> Place
 }
 
 impl Place {
-    // Inner step. The place a step on.
+    // The place a step on.
     fn moved(self, step: Step) -> Place
         requires { ⌜ Movable self step ⌝ }
         ensures { λ r. ⌜ Moved self step r ⌝ }

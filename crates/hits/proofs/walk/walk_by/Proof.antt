@@ -10,7 +10,7 @@ use mir.Val.{SFits}
 use mir.Facts.{toZ-ofZ}
 use Rattle.signed.proofs.Parts.{parts, sum, apart, neg-up, neg-dn}
 use Rattle.vectors.specs.declared.Vector.{Vector}
-use Rattle.hits.specs.Walk.{Small}
+use Rattle.hits.specs.Walk.{Short}
 use Rattle.hits.proofs.Walks.{near, near-fits}
 use Rattle.hits.proofs.walk.walk_by.Statement.{statement}
 use Rattle.hits.proofs.walk.walk_by.Tie as tie
@@ -21,7 +21,7 @@ record Held (edge : ℤ) (v : Vector) : Type 0 where
   offset-fits : SFits w64 (v .offset)
   fits : SFits w64 (edge -ℤ v .offset)
 
-held : {edge : ℤ} {v : Vector} {window : ℕ} (d : ℕ) → Small v window → d ≤ window → edge ≡ pos d -ℤ pos (window / 2) → Held edge v
+held : {edge : ℤ} {v : Vector} {window : ℕ} (d : ℕ) → Short v window → d ≤ window → edge ≡ pos d -ℤ pos (window / 2) → Held edge v
 held {edge} {v} {window} d h l is =
     let w = h .wide in
     let n = near d (window / 2) (omega arith) (omega arith) in
