@@ -257,15 +257,17 @@ keep-each run blocks valid sources w (suc n) maps h state =
 -- For every valid run, every cut of it, all sources within the limits and all maps of bytes of the exact length there is one
 -- history at least, the one above: it shows that the theorems over histories are not empty, and no more. That other orders, with
 -- the sources spread over more calls, add up too is what `blocks-add` says of every history.
-pub history-exists : {run : Run} {blocks : List Run} {sources : List Entry} {maps : List (List ℕ)} → Valid run → Cut run blocks → AllValid 255 sources → Maps blocks maps → ((k : ℕ) → Within 255 (getD maps k [])) → History run blocks sources maps (calls-on run blocks sources maps (length blocks))
+pub history-exists : {run : Run} {blocks : List Run} {sources : List Entry} {maps : List (List ℕ)} → Valid run → Cut run blocks → AllValid 255 sources → Maps blocks maps → ((k : ℕ) → Within 255 (getD maps k [])) → (calls : List Call) × History run blocks sources maps calls
 history-exists {run} {blocks} {sources} {maps} v cut w sized bytes =
-    let valid = valid-at run v blocks cut in
-    record {
-      valid = v;
-      cut = cut;
-      within = w;
-      sized = sized;
-      bytes = bytes;
-      keep = keep-each run blocks valid sources w (length blocks) maps (omega arith) (record { as-many = maps-length run blocks maps sized; sized = map-at run blocks maps sized; bytes = bytes });
-      once = λ k h. rw (to-each run blocks sources (length blocks) maps k h) (Permᴰ·refl sources);
-    }
+    let valid = valid-at run v blocks cut in (
+      calls-on run blocks sources maps (length blocks),
+      record {
+        valid = v;
+        cut = cut;
+        within = w;
+        sized = sized;
+        bytes = bytes;
+        keep = keep-each run blocks valid sources w (length blocks) maps (omega arith) (record { as-many = maps-length run blocks maps sized; sized = map-at run blocks maps sized; bytes = bytes });
+        once = λ k h. rw (to-each run blocks sources (length blocks) maps k h) (Permᴰ·refl sources);
+      },
+    )

@@ -169,33 +169,26 @@ module _ {walk : Walk} {at : Place} (w : Walking walk at) where
   sizes : Near walk at
   sizes = small (w .valid) (w .source-valid) (w .leads) (w .stands)
 
-  pub movable-left : Movable at (walk .left)
-  movable-left =
+  -- a step of the walk may be taken from where it stands
+  movable : {step : Step} → (negℤ (pos 4096) ≤ℤ step .offset) × (step .offset ≤ℤ pos 4096) → step .cells ≤ 2 ^ 44 → Movable at step
+  movable near far =
       let n = sizes in
       let few = cells-few (w .valid) in
       let i = w .inside in
       record {
         offset-low = omega (arith, parts, n .offset .0, neg-dn (pos 4096), neg-up (pos 4096), neg-dn (pos 16384), neg-up (pos 16384));
         offset-high = omega (arith, parts, n .offset .1);
-        step-low = n .left .0;
-        step-high = n .left .1;
+        step-low = near .0;
+        step-high = near .1;
         cell = omega arith;
-        cells = omega (arith, n .left-cells);
+        cells = far;
       }
 
+  pub movable-left : Movable at (walk .left)
+  movable-left = movable (sizes .left) (omega (arith, sizes .left-cells))
+
   pub movable-right : Movable at (walk .right)
-  movable-right =
-      let n = sizes in
-      let few = cells-few (w .valid) in
-      let i = w .inside in
-      record {
-        offset-low = omega (arith, parts, n .offset .0, neg-dn (pos 4096), neg-up (pos 4096), neg-dn (pos 16384), neg-up (pos 16384));
-        offset-high = omega (arith, parts, n .offset .1);
-        step-low = n .right .0;
-        step-high = n .right .1;
-        cell = omega arith;
-        cells = omega (arith, n .right-cells);
-      }
+  movable-right = movable (sizes .right) (omega (arith, sizes .right-cells))
 
   pub movable-both : {mid : Place} → Moved at (walk .left) mid → Movable mid (walk .right)
   movable-both {mid} m =

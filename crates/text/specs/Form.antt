@@ -56,7 +56,7 @@ pub record Content : Type 0 where
 unfoldable pub textOf : Content → List ℕ
 textOf content = line runWord (runNumbers (content .run)) ++ srcLines (content .entries)
 
--- The text has 01's form, and this is what it says.
+-- The text has 01's form, and spells out this run and these sources.
 pub record Spells (text : List ℕ) (content : Content) : Type 0 where
   pub spelled : text ≡ textOf content
   pub runSmall : Small (runNumbers (content .run))

@@ -5,7 +5,8 @@ use mathlib.Core.Logic.{_↔_, ⊎-elim}
 use mathlib.Core.Option.{Option, some, none}
 use native.Mathlib.Omega.{arith}
 use lib.IntN.{pos}
-use Rattle.lattice.proofs.Gcd.{IsGcd, gcd-unique}
+use Rattle.lattice.specs.Gcd.{IsGcd}
+use Rattle.lattice.proofs.Gcd.{gcd-unique}
 use Rattle.lattice.proofs.Pair.{Pair, SomePair, pair-iff, pair-gcd, reach, reached-cases}
 use Rattle.lattice.proofs.Unique as Lattice
 use borrow.Author.Tests.{leb-false, ltb-false}
