@@ -10,7 +10,7 @@ use native.Mathlib.Omega.{arith}
 use lib.ListN.{length, getD, drop, length-append, length-drop, drop-of-length-le}
 use lib.Seq.{drop-cons, drop-drop, drop-append-seam}
 use Rattle.decimal.specs.Digits.{digits, isDigit, beginsWithDigit}
-use Rattle.decimal.specs.Promises.{Stands, Reading}
+use Rattle.decimal.specs.Promises.{NumberStands, Reading}
 use Rattle.decimal.specs.declared.Number.{Number}
 use Rattle.decimal.specs.declared.Number.the-variants.{Value, Bad}
 use Rattle.decimal.proofs.Laws.{
@@ -32,28 +32,28 @@ use Rattle.decimal.proofs.Laws.{
 -- ---- there is one
 
 -- two numbers that stand at one place are the same and end at the same place
-pub stands-unique : {text : List ℕ} {at v v′ next next′ : ℕ} → Stands text at v next → Stands text at v′ next′
+pub stands-unique : {text : List ℕ} {at v v′ next next′ : ℕ} → NumberStands text at v next → NumberStands text at v′ next′
     → (v ≡ v′) × (next ≡ next′)
 stands-unique {text} {at} {v} {v′} {next} {next′} a b =
     let e = digits-split v v′ (drop next text) (drop next′ text) (a .ended) (b .ended) (sym (a .spelled) ∙ b .spelled) .0 in
     (e, a .place ∙ ap (λ n. at + length (digits n)) e ∙ sym (b .place))
 
 -- no second reading fits
-pub reading-unique : (text : List ℕ) (at : ℕ) (r r′ : Number) → Reading text at r → Reading text at r′ → r ≡ r′
-reading-unique text at (Value v next) (Value v′ next′) a b = let e = stands-unique a b in cc
-reading-unique text at (Value v next) Bad a b = absurd (b v next a)
-reading-unique text at Bad (Value v next) a b = absurd (a v next b)
-reading-unique text at Bad Bad a b = refl
+pub number-unique : (text : List ℕ) (at : ℕ) (r r′ : Number) → Reading text at r → Reading text at r′ → r ≡ r′
+number-unique text at (Value v next) (Value v′ next′) a b = let e = stands-unique a b in cc
+number-unique text at (Value v next) Bad a b = absurd (b v next a)
+number-unique text at Bad (Value v next) a b = absurd (a v next b)
+number-unique text at Bad Bad a b = refl
 
 -- a number that stands in a text ends within it
-pub stands-within : {text : List ℕ} {at v next : ℕ} → Stands text at v next → (at < next) × (next ≤ length text)
+pub stands-within : {text : List ℕ} {at v next : ℕ} → NumberStands text at v next → (at < next) × (next ≤ length text)
 stands-within {text} {at} {v} {next} s =
     let l = simp (length-append, length-drop) at (ap length (s .spelled)) in
     omega (arith, length-pos v, s .place)
 
 -- a number and what follows it, wherever they are found, stand there
 pub stands : (text : List ℕ) (at v : ℕ) (rest : List ℕ) → v < 2 ^ 32 → drop at text ≡ digits v ++ rest
-    → beginsWithDigit rest ≡ false → Stands text at v (at + length (digits v))
+    → beginsWithDigit rest ≡ false → NumberStands text at v (at + length (digits v))
 stands text at v rest small e ended =
     let d : drop (at + length (digits v)) text ≡ rest =
     sym (drop-drop (length (digits v)) at text) ∙ ap (drop (length (digits v))) e ∙ drop-append-seam (digits v) rest in
@@ -118,17 +118,17 @@ module _ {text : List ℕ} {at : ℕ} where
       }
 
   -- no digit more: the number stands there
-  pub passed-ends : {v next : ℕ} → Passed text at v next → beginsWithDigit (drop next text) ≡ false → Stands text at v next
+  pub passed-ends : {v next : ℕ} → Passed text at v next → beginsWithDigit (drop next text) ≡ false → NumberStands text at v next
   passed-ends p e = record { small = p .small; spelled = p .spelled; ended = e; place = p .place }
 
   -- ---- no number stands there
 
   -- where no digit stands
-  pub no-digit : beginsWithDigit (drop at text) ≡ false → (w n : ℕ) → Stands text at w n → ⊥
+  pub no-digit : beginsWithDigit (drop at text) ≡ false → (w n : ℕ) → NumberStands text at w n → ⊥
   no-digit e w n s = true≢false (sym (begins-number w (drop n text)) ∙ sym (ap beginsWithDigit (s .spelled)) ∙ e)
 
   -- a number that stands there begins with the digits passed and one digit more
-  begins : {v next d w n : ℕ} → Passed text at v next → Digit text next d → Stands text at w n
+  begins : {v next d w n : ℕ} → Passed text at v next → Digit text next d → NumberStands text at w n
       → (more : List ℕ) × (digits w ≡ (digits v ++ ((48 + d) ∷ [])) ++ more)
   begins {v} {next} {d} {w} {n} p g s =
       run-prefix (digits v ++ ((48 + d) ∷ [])) (digits w) _ (drop n text)
@@ -137,14 +137,14 @@ module _ {text : List ℕ} {at : ℕ} where
       (sym (longer p g) ∙ s .spelled)
 
   -- where a digit follows 0
-  pub leading-zero : {v next d : ℕ} → Passed text at v next → Digit text next d → v ≡ 0 → (w n : ℕ) → Stands text at w n → ⊥
+  pub leading-zero : {v next d : ℕ} → Passed text at v next → Digit text next d → v ≡ 0 → (w n : ℕ) → NumberStands text at w n → ⊥
   leading-zero {v} {next} {d} p g z w n s =
       let (more, e) = begins p g s in
       let f : digits w ≡ (48 + v) ∷ (48 + d) ∷ more = e ∙ rw (digits-one v (omega arith)) refl in
       digits-numeral w .first (omega (arith, ap length f)) (ap (λ l. getD l 0 0) f ∙ omega arith)
 
   -- where the digits passed and one digit more are too large
-  pub too-large : {v next d : ℕ} → Passed text at v next → Digit text next d → 2 ^ 32 ≤ v * 10 + d → (w n : ℕ) → Stands text at w n → ⊥
+  pub too-large : {v next d : ℕ} → Passed text at v next → Digit text next d → 2 ^ 32 ≤ v * 10 + d → (w n : ℕ) → NumberStands text at w n → ⊥
   too-large {v} {next} {d} p g h w n s =
       let (more, e) = begins p g s in
       omega (arith, value-snoc v d, value-prefix w (digits v ++ ((48 + d) ∷ [])) more e, s .small)

@@ -5,21 +5,21 @@ use mathlib.Core.Bool.{Bool, true, false, _&&_}
 use mathlib.Core.List.{List, [], _∷_, _++_}
 use lib.Dec.{leb, ltb}
 
--- the last digits of n in decimal, `most` of them at most
+-- The last digits of n in decimal, `most` of them at most.
 unfoldable pub digitsWithin : ℕ → ℕ → List ℕ
 digitsWithin zero n = []
 digitsWithin (suc most) n =
     elim (ltb n 10) [ true ↦ (48 + n) ∷ [] | false ↦ digitsWithin most (n / 10) ++ ((48 + n % 10) ∷ []) ]
 
--- "decimal numbers ... without sign or leading zeros (0 itself is `0`)": all the digits of n, which are no more than n + 1, the most significant first
+-- "decimal numbers ... without sign or leading zeros (0 itself is `0`)": all the digits of n, which are no more than n + 1, the most significant first.
 unfoldable pub digits : ℕ → List ℕ
 digits n = digitsWithin (suc n) n
 
--- whether a byte is one of `0` to `9`
+-- Whether a byte is one of `0` to `9`.
 abbrev pub isDigit : ℕ → Bool
 isDigit b = leb 48 b && leb b 57
 
--- whether a text begins with a digit; the empty text does not
+-- Whether a text begins with a digit; the empty text does not.
 abbrev pub beginsWithDigit : List ℕ → Bool
 beginsWithDigit [] = false
 beginsWithDigit (b ∷ rest) = isDigit b

@@ -18,7 +18,7 @@ pub enum Number {
     Bad,
 }
 
-// Inner step: writes n into the room at `at` and answers the place after it; the caller sees to it that n fits.
+// Inner step. Writes n into the room at `at` and answers the place after it; the caller sees to it that n fits.
 // The digits of n are those of n / 10 and then n % 10, so the call that writes the first ones comes first.
 pub fn write_number(room: &mut [u8], at: usize, n: u64) -> usize
     requires { ⌜ at + length (digits n) ≤ length (now room) ⌝ }
@@ -40,7 +40,7 @@ fn write_digit(room: &mut [u8], at: usize, digit: u64) -> usize
     at + 1
 }
 
-// Inner step: the number in the text at `at`, which ends where its digits end.
+// Inner step. The number in the text at `at`, which ends where its digits end.
 // The digits passed are always those of `value`. One more after 0 makes that a leading zero, and a value
 // above the largest only grows with more digits, so both are bad at once and no sum can wrap.
 pub fn read_number(text: &[u8], at: usize) -> Number

@@ -27,7 +27,7 @@ use Rattle.hits.specs.Promise.{firstHitTests, listingTests, first, Listed, says
 use Rattle.demands.specs.FirstHit.{IsFirstHit}
 use Rattle.demands.specs.Listing.{Chain, done, more, listOf, callsOf, Lends}
 use Rattle.demands.proofs.FirstHits.{first-is}
-use Rattle.demands.proofs.SomeReply.{listing-some}
+use Rattle.demands.proofs.SomeReply.{listing-exists}
 
 -- ---- the hits from a hit on
 
@@ -87,7 +87,7 @@ module _ (block : Run) (source : Source) (start : RunCell) (room : List ℕ) whe
 
   told : (after : List ℕ) (r : Listing) (n : ℕ) (next : Option ℕ) → ListingPromise block source start room r after → saysListing r ≡ answered (record { count = n; next = next }) → Told after n next
   unfolding listed
-  told after r n next h e = go (complaint (listingTests block source start room)) refl (sym e ∙ h .says) (h .holds)
+  told after r n next h e = go (complaint (listingTests block source start room)) refl (sym e ∙ h .says) (h .stores)
     where
       hits : List ℕ
       hits = hitsFrom block source (start .0)
@@ -176,7 +176,7 @@ pub record Lent (block : Run) (source : Source) (start : RunCell) (rooms : ℕ �
 
 -- one call, and the chain that goes on from where it stopped
 lent-from : {block : Run} {source : Source} → Valid block → ValidSource source → (start : RunCell) → start .0 < cellsOf block → (rooms : ℕ → List ℕ) → ((k : ℕ) → 1 ≤ length (rooms k)) → ((next : RunCell) → next .0 < cellsOf block → length (hitsFrom block source (next .0)) < length (hitsFrom block source (start .0)) → Lent block source next (λ k. rooms (suc k))) → Lent block source start rooms
-lent-from {block} {source} v w start inside rooms above rest = let o = listing-some block source start (rooms 0) in go (o .0) (o .1) (o .2)
+lent-from {block} {source} v w start inside rooms above rest = let o = listing-exists block source start (rooms 0) in go (o .0) (o .1) (o .2)
   where
     go : (r : Listing) (after : List ℕ) → ListingPromise block source start (rooms 0) r after → Lent block source start rooms
     go (Done n) after h = record { chain = done (rooms 0) after n h; lends = refl }
@@ -193,5 +193,5 @@ lent-bounded v w (suc m) start inside bound rooms above =
     lent-from v w start inside rooms above (λ next i l. lent-bounded v w m next i (omega arith) (λ k. rooms (suc k)) (λ k. above (suc k)))
 
 -- For every supply of rooms above nothing, and from every cell on, such a chain exists.
-pub chain-exists : {block : Run} {source : Source} → Valid block → ValidSource source → (start : RunCell) → start .0 < cellsOf block → (rooms : ℕ → List ℕ) → ((k : ℕ) → 1 ≤ length (rooms k)) → Lent block source start rooms
-chain-exists {block} {source} v w start inside rooms above = lent-bounded v w (length (hitsFrom block source (start .0))) start inside (omega arith) rooms above
+pub lent-exists : {block : Run} {source : Source} → Valid block → ValidSource source → (start : RunCell) → start .0 < cellsOf block → (rooms : ℕ → List ℕ) → ((k : ℕ) → 1 ≤ length (rooms k)) → Lent block source start rooms
+lent-exists {block} {source} v w start inside rooms above = lent-bounded v w (length (hitsFrom block source (start .0))) start inside (omega arith) rooms above

@@ -16,29 +16,29 @@ use Rattle.scope.specs.declared.RunCell.{RunCell}
 use Rattle.scope.specs.Hit.{hitsFrom}
 use Rattle.scope.specs.Refusal.{Complaint, complaint, number}
 use Rattle.scope.specs.Reply.{Said, refused, answered}
-use Rattle.scope.specs.Entry.{Entry, entriesOf}
+use Rattle.sources.specs.Entry.{Entry, entriesOf}
 use Rattle.scope.proofs.Judged.{Fails}
 use Rattle.sources.specs.Lists.{periodsOf, weightsOf}
 use Rattle.sources.proofs.Entries.{entries-of, periods-length, weights-length}
 use Rattle.vectors.specs.declared.Basis.{Basis}
 use Rattle.vectors.specs.declared.Steps.{Steps}
-use Rattle.vectors.specs.Promise.{vectorsTests, says, Admits, VectorsPromise}
+use Rattle.vectors.specs.Promise.{vectorsTests, saysVectors, Admits, VectorsPromise}
 use Rattle.hits.specs.declared.FirstHit.{FirstHit}
 use Rattle.hits.specs.declared.Listing.{Listing}
-use Rattle.hits.specs.Promise.{saysFirst, saysListing, first, listed, written, FirstHitPromise, ListingPromise}
+use Rattle.hits.specs.Promise.{saysFirstHit, saysListing, first, listed, written, FirstHitPromise, ListingPromise}
 use Rattle.map.specs.declared.Added.{Added}
-use Rattle.map.specs.Map.{added, says as saysMap, MapPromise}
+use Rattle.map.specs.Map.{added, saysMap, MapPromise}
 use Rattle.saved.specs.declared.Saved.{Saved}
 use Rattle.saved.specs.declared.Loaded.{Loaded}
 use Rattle.saved.specs.File.{fileOf, runOf, mapOf}
-use Rattle.saved.specs.Promise.{saidOfSaving, saidOfReading, SavePromise, ReadPromise}
+use Rattle.saved.specs.Promise.{saysSaving, saysReading, SavingPromise, ReadingPromise}
 use Rattle.text.specs.declared.Answer.{Answer}
 use Rattle.text.specs.declared.Answer.the-variants.{Read, Refused}
 use Rattle.text.specs.declared.Input.{Input}
 use Rattle.text.specs.Form.{line, Content}
-use Rattle.text.specs.Promise.{Reads, replyTo, handed, padded, refusal, says as saysText, TextPromise}
+use Rattle.text.specs.Promise.{Reads, replyTo, handed, padded, refusal, saysText, TextPromise}
 use Rattle.text.proofs.Lines.{line-split}
-use Rattle.text.proofs.Unique.{says-unique}
+use Rattle.text.proofs.Unique.{spells-unique}
 use Rattle.report.specs.declared.Output.{Output}
 use Rattle.report.specs.Report.{refusedWord, runReport, wholeReport, printed, reportOf, ReportPromise}
 use Rattle.demands.specs.Table.{_given_, Says, BadPeriod, BadWeight, AtFault, vectorsTable, firstHitTable, listingTable, sourcesTable, mapTable, savingTable, readingTable, contentTable, SaysOfText}
@@ -49,9 +49,9 @@ use Rattle.demands.proofs.Rows.{vectors-rows, first-hit-rows, listing-r
 -- ---- vectors
 
 -- A reply of the vectors call reads "refused n" exactly when its table says n. (Nothing is lent.)
-pub vectors-refused : (p r I : ℕ) (steps : Steps) → VectorsPromise p r I steps → (n : ℕ) → (says steps ≡ refused n) ↔ Says (vectorsTable p r I) n
+pub vectors-refused : (p r I : ℕ) (steps : Steps) → VectorsPromise p r I steps → (n : ℕ) → (saysVectors steps ≡ refused n) ↔ Says (vectorsTable p r I) n
 unfolding VectorsPromise
-vectors-refused p r I steps h n = Iff·trans (admitted (complaint (vectorsTests p r I)) (says steps) refl h) (vectors-rows p r I .fails n)
+vectors-refused p r I steps h n = Iff·trans (admitted (complaint (vectorsTests p r I)) (saysVectors steps) refl h) (vectors-rows p r I .fails n)
   where
     admitted : (o : Option Complaint) (said : Said Basis) → complaint (vectorsTests p r I) ≡ o → Admits o p r I said → (said ≡ refused n) ↔ Fails (vectorsTests p r I) n
     admitted none (answered basis) i h = (λ e. absurd (let z : _≡_ {A = ℕ} 0 1 = cc in omega arith), λ f. absurd (let z : _≡_ {A = ℕ} 0 1 = cc in omega arith))
@@ -62,9 +62,9 @@ vectors-refused p r I steps h n = Iff·trans (admitted (complaint (vectorsTests 
 
 module _ (run : Run) (source : Source) (start : RunCell) where
   -- A reply of the first-hit call reads "refused n" exactly when its table says n. (Nothing is lent.)
-  pub first-hit-refused : (r : FirstHit) → FirstHitPromise run source start r → (n : ℕ) → (saysFirst r ≡ refused n) ↔ Says (firstHitTable run source start) n
+  pub first-hit-refused : (r : FirstHit) → FirstHitPromise run source start r → (n : ℕ) → (saysFirstHit r ≡ refused n) ↔ Says (firstHitTable run source start) n
   unfolding FirstHitPromise
-  first-hit-refused r h = exactly (first-hit-rows run source start) (first (hitsFrom run source (start .0))) (saysFirst r) h
+  first-hit-refused r h = exactly (first-hit-rows run source start) (first (hitsFrom run source (start .0))) (saysFirstHit r) h
 
   module _ (room : List ℕ) (r : Listing) (after : List ℕ) (h : ListingPromise run source start room r after) where
     -- A reply of the listing call reads "refused n" exactly when its table says n.
@@ -73,38 +73,38 @@ module _ (run : Run) (source : Source) (start : RunCell) where
 
     -- And the room then holds what it held.
     pub listing-keeps : (n : ℕ) → saysListing r ≡ refused n → after ≡ room
-    listing-keeps = keeps (listing-rows run source start room) (listed (hitsFrom run source (start .0)) room) (saysListing r) (h .says) room (written (hitsFrom run source (start .0)) room) after (h .holds)
+    listing-keeps = keeps (listing-rows run source start room) (listed (hitsFrom run source (start .0)) room) (saysListing r) (h .says) room (written (hitsFrom run source (start .0)) room) after (h .stores)
 
 -- ---- map
 
 module _ (run : Run) (periods weights map : List ℕ) (answer : Added) (after : List ℕ) (h : MapPromise run periods weights map answer after) where
   -- A reply of the map call reads "refused n" exactly when its table says n.
   pub map-refused : (n : ℕ) → (saysMap answer ≡ refused n) ↔ Says (mapTable run periods weights map) n
-  map-refused = exactly (map-rows run periods weights map) tt (saysMap answer) (h .replies)
+  map-refused = exactly (map-rows run periods weights map) tt (saysMap answer) (h .says)
 
   -- And the map then holds what it held: none is "half written before the tenth source is refused".
   pub map-keeps : (n : ℕ) → saysMap answer ≡ refused n → after ≡ map
-  map-keeps = keeps (map-rows run periods weights map) tt (saysMap answer) (h .replies) map (added 255 run (entriesOf periods weights) map) after (h .stores)
+  map-keeps = keeps (map-rows run periods weights map) tt (saysMap answer) (h .says) map (added 255 run (entriesOf periods weights) map) after (h .stores)
 
 -- ---- saving and reading
 
-module _ (run : Run) (map room : List ℕ) (answer : Saved) (after : List ℕ) (h : SavePromise run map room answer after) where
+module _ (run : Run) (map room : List ℕ) (answer : Saved) (after : List ℕ) (h : SavingPromise run map room answer after) where
   -- A reply of the saving call reads "refused n" exactly when its table says n.
-  pub saving-refused : (n : ℕ) → (saidOfSaving answer ≡ refused n) ↔ Says (savingTable run map room) n
-  saving-refused = exactly (saving-rows run map room) tt (saidOfSaving answer) (h .says)
+  pub saving-refused : (n : ℕ) → (saysSaving answer ≡ refused n) ↔ Says (savingTable run map room) n
+  saving-refused = exactly (saving-rows run map room) tt (saysSaving answer) (h .says)
 
   -- And the room for the file then holds what it held.
-  pub saving-keeps : (n : ℕ) → saidOfSaving answer ≡ refused n → after ≡ room
-  saving-keeps = keeps (saving-rows run map room) tt (saidOfSaving answer) (h .says) room (fileOf run map) after (h .stores)
+  pub saving-keeps : (n : ℕ) → saysSaving answer ≡ refused n → after ≡ room
+  saving-keeps = keeps (saving-rows run map room) tt (saysSaving answer) (h .says) room (fileOf run map) after (h .stores)
 
-module _ (file map : List ℕ) (answer : Loaded) (after : List ℕ) (h : ReadPromise file map answer after) where
+module _ (file map : List ℕ) (answer : Loaded) (after : List ℕ) (h : ReadingPromise file map answer after) where
   -- A reply of the reading call reads "refused n" exactly when its table says n.
-  pub reading-refused : (n : ℕ) → (saidOfReading answer ≡ refused n) ↔ Says (readingTable file map) n
-  reading-refused = exactly (reading-rows file map) (runOf file) (saidOfReading answer) (h .says)
+  pub reading-refused : (n : ℕ) → (saysReading answer ≡ refused n) ↔ Says (readingTable file map) n
+  reading-refused = exactly (reading-rows file map) (runOf file) (saysReading answer) (h .says)
 
   -- And the map then holds what it held.
-  pub reading-keeps : (n : ℕ) → saidOfReading answer ≡ refused n → after ≡ map
-  reading-keeps = keeps (reading-rows file map) (runOf file) (saidOfReading answer) (h .says) map (mapOf file) after (h .stores)
+  pub reading-keeps : (n : ℕ) → saysReading answer ≡ refused n → after ≡ map
+  reading-keeps = keeps (reading-rows file map) (runOf file) (saysReading answer) (h .says) map (mapOf file) after (h .stores)
 
 -- ---- reading a text
 
@@ -123,19 +123,19 @@ reply-refused text (some content) r n = (λ k. inr (content, r, told .0 k), back
 
     back : SaysOfText text n → replyTo (some content) ≡ refused n
     back (inl k) = absurd (k .1 content r)
-    back (inr k) = told .1 (subst (λ c. Says (contentTable c) n) (says-unique (k .1) r) (k .2))
+    back (inr k) = told .1 (subst (λ c. Says (contentTable c) n) (spells-unique (k .1) r) (k .2))
 
 module _ (text : List ℕ) (input : Input) (h : TextPromise text input) where
   -- A reply to a text reads "refused n" exactly when its table says n: 11 exactly when the text has not the form, else what the
   -- table says of the run and the sources in it.
   pub text-refused : (n : ℕ) → (saysText (input .answer) ≡ refused n) ↔ SaysOfText text n
-  text-refused n = rw (h .replies) (reply-refused text (h .content) (h .reads) n)
+  text-refused n = rw (h .says) (reply-refused text (h .content) (h .reads) n)
 
   -- "A refused call answers with the number alone": no source goes with it.
   pub text-refused-alone : (n : ℕ) → saysText (input .answer) ≡ refused n → input ≡ refusal n
   unfolding padded periodsOf weightsOf
   text-refused-alone n k =
-      let none-handed = go (h .content) (h .replies) in
+      let none-handed = go (h .content) (h .says) in
       let answers = refuses (input .answer) k in
       let counts = h .counts ∙ ap length none-handed in
       let periods = h .periods ∙ ap (λ es. padded (periodsOf es)) none-handed in
@@ -168,7 +168,7 @@ pub report-refused : (text : List ℕ) (output : Output) → ReportPromise text 
 unfolding reportOf
 report-refused text output h n =
     let bytes = reportOf (h .content) in
-    let is : printedBy output ≡ bytes = ap (take (output .length)) (h .holds .begins) ∙ take-at bytes _ (output .length) (sym (h .holds .counts)) in
+    let is : printedBy output ≡ bytes = ap (take (output .length)) (h .says .begins) ∙ take-at bytes _ (output .length) (sym (h .says .counts)) in
     rw is (Iff·trans (printed-refused (replyTo (h .content)) (handed (h .content)) n) (reply-refused text (h .content) (h .reads) n))
 
 -- ---- a list of sources at fault

@@ -25,12 +25,10 @@ use Rattle.scope.proofs.Hits.{hit-hits, one-hit-on-line}
 use Rattle.vectors.specs.declared.Vector.{Vector}
 use Rattle.vectors.specs.declared.Steps.{Steps}
 use Rattle.vectors.specs.declared.Steps.the-variants.{Pair, Single, Refused}
-use Rattle.vectors.specs.Vectors.{InLattice, IsPair, IsSingle}
-use Rattle.vectors.specs.Promise.{vectorsTests, says, Admits, VectorsPromise}
+use Rattle.vectors.specs.Vectors.{InLattice, IsPair, APair, Whole, Sum, IsSingle}
+use Rattle.vectors.specs.Promise.{vectorsTests, saysVectors, Admits, VectorsPromise}
 use Rattle.vectors.proofs.Theorems as Theorems
-use Rattle.vectors.proofs.Theorems.{APair}
 use Rattle.vectors.proofs.Proposition as Proposition
-use Rattle.vectors.proofs.Proposition.{Sum, Whole}
 use Rattle.demands.specs.FirstHit.{HitsCell}
 use Rattle.demands.specs.StepVectors.{Asked, StepVectors}
 
@@ -62,7 +60,7 @@ single-is {p} {r} {I} {g} {v} is = (to, from)
     from : (I ≤ g) × (v ≡ record { offset = pos 0; line = p / g }) → IsSingle p r I v
     from h = record { g = g; is-gcd = is; wide = h .0; at-zero = ap (λ (w : Vector). w .offset) (h .1); rises = ap (λ (w : Vector). w .line) (h .1) }
 
-admits-is : {p r g : ℕ} (I : ℕ) → IsGcd g r p → (steps : Steps) → Admits none p r I (says steps) ↔ StepVectors p r I g steps
+admits-is : {p r g : ℕ} (I : ℕ) → IsGcd g r p → (steps : Steps) → Admits none p r I (saysVectors steps) ↔ StepVectors p r I g steps
 admits-is I is (Pair left right) = (λ h. h, λ h. h)
 admits-is I is (Single v) = single-is is
 admits-is I is (Refused n) = (λ h. h, λ h. h)
@@ -78,8 +76,8 @@ pub pair-exists : (p r I g : ℕ) → Asked p r I → IsGcd g r p → APair p r 
 pair-exists p r I g a is = Theorems.pair-exactly-when (a .remainder) (a .fits) is
 
 -- "At most one such pair exists."
-pub one-pair : (p r I : ℕ) {left right left′ right′ : Vector} → IsPair p r I left right → IsPair p r I left′ right′ → (left ≡ left′) × (right ≡ right′)
-one-pair p r I h h′ = Theorems.one-pair h h′
+pub pair-unique : (p r I : ℕ) {left right left′ right′ : Vector} → IsPair p r I left right → IsPair p r I left′ right′ → (left ≡ left′) × (right ≡ right′)
+pair-unique p r I h h′ = Theorems.pair-unique h h′
 
 -- "(so they are a basis)": every point of the lattice is a whole combination of the pair.
 pub pair-is-basis : (p r I : ℕ) {left right : Vector} → IsPair p r I left right → (i j : ℤ) → p ∣ natAbs ((pos r *ℤ j) -ℤ i) → Whole left right i j

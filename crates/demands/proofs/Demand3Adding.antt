@@ -13,19 +13,19 @@ use lib.ListN.{length, getD, set, length-set}
 use lib.Seq.{getD-set-same, getD-set-other}
 use borrow.Author.Tests.{eq-eqb, ne-eqb}
 use Rattle.scope.specs.declared.Run.{Run}
-use Rattle.scope.specs.Run.{Valid, cellsOf}
-use Rattle.scope.specs.Entry.{Entry}
+use Rattle.scope.specs.Run.{Valid, Within, cellsOf}
+use Rattle.sources.specs.Entry.{Entry}
 use Rattle.scope.proofs.Judged.{Passes, sound, both}
 use Rattle.scope.proofs.Limits.{valid-run-passes}
 use Rattle.map.specs.declared.Added.{Added}
 use Rattle.map.specs.declared.Added.the-variants.{Done}
 use Rattle.map.specs.Sum.{raised}
 use Rattle.map.specs.Map.{mapTests, weightAt, added, MapPromise}
-use Rattle.map.proofs.Raised.{Within, raised-append, raised-move}
+use Rattle.map.proofs.Raised.{raised-append, raised-move}
 use Rattle.sources.specs.Lists.{periodsOf, weightsOf, AllValid}
 use Rattle.sources.proofs.Entries.{valid-entries-pass, entries-of, periods-length, weights-length}
 use Rattle.map.proofs.Entries.{weight-shift, added-append, added-none, added-same, added-length, added-within, added-getD}
-use Rattle.map.proofs.Promise.{granted-call, stores-added, says-injective}
+use Rattle.map.proofs.Promise.{granted-call, stores-added, says-map-injective}
 use Rattle.demands.specs.Cut.{CutFrom, Cut}
 use Rattle.demands.specs.Adding.{together, Maps, Call, Keep, leave, addedTo, NoneRefused, History, Adds}
 use Rattle.demands.proofs.Cuts.{piece-is, before, before-first, before-piece}
@@ -71,7 +71,7 @@ call-passes entries map v w e =
 call-adds : {block : Run} (entries : List Entry) {map : List ℕ} {answer : Added} {after : List ℕ} → Valid block → AllValid 255 entries → length map ≡ cellsOf block → MapPromise block (periodsOf entries) (weightsOf entries) map answer after → (answer ≡ Done) × (after ≡ added 255 block entries map)
 call-adds {block} entries {map} {answer} {after} v w e m =
     let got = stores-added (call-passes entries map v w e) m in
-    (says-injective answer Done (got .0), got .1 ∙ ap (λ (l : List Entry). added 255 block l map) (entries-of entries))
+    (says-map-injective answer Done (got .0), got .1 ∙ ap (λ (l : List Entry). added 255 block l map) (entries-of entries))
 
 -- ---- a history, call after call
 
@@ -257,15 +257,17 @@ keep-each run blocks valid sources w (suc n) maps h state =
 -- For every valid run, every cut of it, all sources within the limits and all maps of bytes of the exact length there is one
 -- history at least, the one above: it shows that the theorems over histories are not empty, and no more. That other orders, with
 -- the sources spread over more calls, add up too is what `blocks-add` says of every history.
-pub some-history : {run : Run} {blocks : List Run} {sources : List Entry} {maps : List (List ℕ)} → Valid run → Cut run blocks → AllValid 255 sources → Maps blocks maps → ((k : ℕ) → Within 255 (getD maps k [])) → History run blocks sources maps (calls-on run blocks sources maps (length blocks))
-some-history {run} {blocks} {sources} {maps} v cut w sized bytes =
-    let valid = valid-at run v blocks cut in
-    record {
-      valid = v;
-      cut = cut;
-      within = w;
-      sized = sized;
-      bytes = bytes;
-      keep = keep-each run blocks valid sources w (length blocks) maps (omega arith) (record { as-many = maps-length run blocks maps sized; sized = map-at run blocks maps sized; bytes = bytes });
-      once = λ k h. rw (to-each run blocks sources (length blocks) maps k h) (Permᴰ·refl sources);
-    }
+pub history-exists : {run : Run} {blocks : List Run} {sources : List Entry} {maps : List (List ℕ)} → Valid run → Cut run blocks → AllValid 255 sources → Maps blocks maps → ((k : ℕ) → Within 255 (getD maps k [])) → (calls : List Call) × History run blocks sources maps calls
+history-exists {run} {blocks} {sources} {maps} v cut w sized bytes =
+    let valid = valid-at run v blocks cut in (
+      calls-on run blocks sources maps (length blocks),
+      record {
+        valid = v;
+        cut = cut;
+        within = w;
+        sized = sized;
+        bytes = bytes;
+        keep = keep-each run blocks valid sources w (length blocks) maps (omega arith) (record { as-many = maps-length run blocks maps sized; sized = map-at run blocks maps sized; bytes = bytes });
+        once = λ k h. rw (to-each run blocks sources (length blocks) maps k h) (Permᴰ·refl sources);
+      },
+    )

@@ -22,7 +22,7 @@ use Rattle.hits.specs.declared.Listing.the-variants.{Done, More, Refused}
 use Rattle.hits.specs.Promise.{ListingPromise}
 use Rattle.demands.specs.Cut.{Cut}
 use Rattle.demands.specs.Listing.{Chain, callsOf, Lends, Answered, Listings, LendsEach, joined, InOrder, EveryHitOnce}
-use Rattle.demands.proofs.Chains.{chain-lists, few-calls, goes-inside, not-refused, chain-exists}
+use Rattle.demands.proofs.Chains.{chain-lists, few-calls, goes-inside, not-refused, lent-exists}
 use Rattle.demands.proofs.Cuts.{cut-valid}
 use Rattle.demands.proofs.CutHits.{blockHits, cut-hits}
 
@@ -94,9 +94,9 @@ joined-same run source v blocks blocks′ c c′ lists lists′ = joined-is run 
 
 -- "any room above nothing": for each supply of rooms there is a chain of calls that the rooms are lent to, with no more calls
 -- than hits, or one call if there is none.
-pub listing-exists : (block : Run) (source : Source) → Valid block → ValidSource source → (rooms : ℕ → List ℕ) → ((k : ℕ) → 1 ≤ length (rooms k)) → (chain : Chain block source (record { 0 = 0 })) × Lends rooms chain × (callsOf chain ≤ max 1 (length (hitsFrom block source 0)))
-listing-exists block source v w rooms above =
-    let c = chain-exists v w (record { 0 = 0 }) (omega (arith, window-cells v)) rooms above in
+pub chain-exists : (block : Run) (source : Source) → Valid block → ValidSource source → (rooms : ℕ → List ℕ) → ((k : ℕ) → 1 ≤ length (rooms k)) → (chain : Chain block source (record { 0 = 0 })) × Lends rooms chain × (callsOf chain ≤ max 1 (length (hitsFrom block source 0)))
+chain-exists block source v w rooms above =
+    let c = lent-exists v w (record { 0 = 0 }) (omega (arith, window-cells v)) rooms above in
     (c .chain, c .lends, few-calls (c .chain))
 
 -- No call of such a chain is refused, whichever outcome the promise admits: the first starts at a cell of the block, and where
@@ -113,6 +113,6 @@ listings-exist run source v w blocks cut rooms above = each blocks (λ block m. 
     each : (some : List Run) → ((block : Run) → List·Memᴰ block some → Valid block) → (lists : Listings source some) × LendsEach rooms source some lists
     each [] f = (tt, tt)
     each (block ∷ rest) f =
-        let here = listing-exists block source (f block (List·Memᴰ·head refl)) w (rooms block) (above block) in
+        let here = chain-exists block source (f block (List·Memᴰ·head refl)) w (rooms block) (above block) in
         let more = each rest (λ b m. f b (List·Memᴰ·tail m)) in
         ((here .0, more .0), (here .1, more .1))

@@ -9,53 +9,53 @@ use Rattle.scope.specs.declared.Source.{Source}
 use Rattle.scope.specs.declared.RunCell.{RunCell}
 use Rattle.vectors.specs.declared.Steps.{Steps}
 use Rattle.vectors.specs.Promise.{VectorsPromise}
-use Rattle.vectors.proofs.Theorems.{vectors-unique}
+use Rattle.vectors.proofs.Theorems as Vectors
 use Rattle.hits.specs.declared.FirstHit.{FirstHit}
 use Rattle.hits.specs.declared.Listing.{Listing}
 use Rattle.hits.specs.Promise.{FirstHitPromise, ListingPromise}
 use Rattle.hits.proofs.Theorems as Hits
 use Rattle.map.specs.declared.Added.{Added}
 use Rattle.map.specs.Map.{MapPromise}
-use Rattle.map.proofs.Promise.{map-unique}
+use Rattle.map.proofs.Promise as Map
 use Rattle.saved.specs.declared.Saved.{Saved}
 use Rattle.saved.specs.declared.Loaded.{Loaded}
-use Rattle.saved.specs.Promise.{SavePromise, ReadPromise}
-use Rattle.saved.proofs.RoundTrips.{one-saving, one-reading}
+use Rattle.saved.specs.Promise.{SavingPromise, ReadingPromise}
+use Rattle.saved.proofs.RoundTrips as Saved
 use Rattle.text.specs.declared.Input.{Input}
 use Rattle.text.specs.Promise.{TextPromise}
-use Rattle.text.proofs.Unique.{text-unique}
+use Rattle.text.proofs.Unique as Text
 use Rattle.report.specs.declared.Output.{Output}
 use Rattle.report.specs.Report.{ReportPromise}
-use Rattle.report.proofs.Unique.{report-unique}
+use Rattle.report.proofs.Unique as Report
 
 -- The vectors call: one reply.
-pub vectors-once : (p r I : ℕ) (a b : Steps) → VectorsPromise p r I a → VectorsPromise p r I b → a ≡ b
-vectors-once = vectors-unique
+pub vectors-unique : (p r I : ℕ) (a b : Steps) → VectorsPromise p r I a → VectorsPromise p r I b → a ≡ b
+vectors-unique = Vectors.vectors-unique
 
 -- The first-hit call: one reply.
-pub first-hit-once : (run : Run) (source : Source) (start : RunCell) (a b : FirstHit) → FirstHitPromise run source start a → FirstHitPromise run source start b → a ≡ b
-first-hit-once = Hits.first-hit-once
+pub first-hit-unique : (run : Run) (source : Source) (start : RunCell) (a b : FirstHit) → FirstHitPromise run source start a → FirstHitPromise run source start b → a ≡ b
+first-hit-unique = Hits.first-hit-unique
 
 -- The listing call: one reply, and one room after it.
-pub listing-once : (run : Run) (source : Source) (start : RunCell) (room : List ℕ) (a b : Listing) (after after′ : List ℕ) → ListingPromise run source start room a after → ListingPromise run source start room b after′ → (a ≡ b) × (after ≡ after′)
-listing-once run source start room a b after after′ = Hits.listing-once
+pub listing-unique : (run : Run) (source : Source) (start : RunCell) (room : List ℕ) (a b : Listing) (after after′ : List ℕ) → ListingPromise run source start room a after → ListingPromise run source start room b after′ → (a ≡ b) × (after ≡ after′)
+listing-unique run source start room a b after after′ = Hits.listing-unique
 
 -- The map call: one reply, and one map after it.
-pub map-once : (run : Run) (periods weights map : List ℕ) (a b : Added) (after after′ : List ℕ) → MapPromise run periods weights map a after → MapPromise run periods weights map b after′ → (a ≡ b) × (after ≡ after′)
-map-once run periods weights map a b after after′ = map-unique
+pub map-unique : (run : Run) (periods weights map : List ℕ) (a b : Added) (after after′ : List ℕ) → MapPromise run periods weights map a after → MapPromise run periods weights map b after′ → (a ≡ b) × (after ≡ after′)
+map-unique run periods weights map a b after after′ = Map.map-unique
 
 -- Saving: one reply, and one file after it.
-pub saving-once : (run : Run) (map room : List ℕ) (a b : Saved) (after after′ : List ℕ) → SavePromise run map room a after → SavePromise run map room b after′ → (a ≡ b) × (after ≡ after′)
-saving-once run map room a b after after′ = one-saving
+pub saving-unique : (run : Run) (map room : List ℕ) (a b : Saved) (after after′ : List ℕ) → SavingPromise run map room a after → SavingPromise run map room b after′ → (a ≡ b) × (after ≡ after′)
+saving-unique run map room a b after after′ = Saved.saving-unique
 
 -- Reading: one reply with its run, and one map after it.
-pub reading-once : (file map : List ℕ) (a b : Loaded) (after after′ : List ℕ) → ReadPromise file map a after → ReadPromise file map b after′ → (a ≡ b) × (after ≡ after′)
-reading-once file map a b after after′ = one-reading
+pub reading-unique : (file map : List ℕ) (a b : Loaded) (after after′ : List ℕ) → ReadingPromise file map a after → ReadingPromise file map b after′ → (a ≡ b) × (after ≡ after′)
+reading-unique file map a b after after′ = Saved.reading-unique
 
 -- Reading a text: one reply with its run and sources.
-pub text-once : (text : List ℕ) (a b : Input) → TextPromise text a → TextPromise text b → a ≡ b
-text-once = text-unique
+pub text-unique : (text : List ℕ) (a b : Input) → TextPromise text a → TextPromise text b → a ≡ b
+text-unique = Text.text-unique
 
 -- The report on a text: one output, both its count and its bytes.
-pub report-once : (text : List ℕ) (a b : Output) → ReportPromise text a → ReportPromise text b → a ≡ b
-report-once = report-unique
+pub report-unique : (text : List ℕ) (a b : Output) → ReportPromise text a → ReportPromise text b → a ≡ b
+report-unique = Report.report-unique

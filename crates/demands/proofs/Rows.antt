@@ -15,12 +15,12 @@ use Rattle.scope.specs.declared.Source.{Source}
 use Rattle.scope.specs.declared.RunCell.{RunCell}
 use Rattle.scope.specs.Run.{cellsOf}
 use Rattle.scope.specs.Refusal.{_when_, _andThen_, Check, number, windowTests, lineTests, runTests, periodTests, sourceTests, weightTests}
-use Rattle.scope.specs.Entry.{Entry, entriesOf, entryTests, listTests}
+use Rattle.sources.specs.Entry.{Entry, entriesOf, entryTests, listTests}
 use Rattle.vectors.specs.Promise.{vectorsTests}
 use Rattle.hits.specs.Promise.{firstHitTests, listingTests}
-use Rattle.map.specs.Map as Map
-use Rattle.saved.specs.Block.{fourAt, checkOf, contents, zeros, blockTests}
-use Rattle.saved.specs.File.{blockAt, runOf, blocksFor, fileLength, saveTests, headingTests, mapTests, fileTests, readTests}
+use Rattle.map.specs.Map.{mapTests}
+use Rattle.saved.specs.Block.{fourAt, checkOf, contents, allZero, blockTests}
+use Rattle.saved.specs.File.{blockAt, runOf, blocksFor, fileLength, savingTests, headingTests, cellBlocksTests, fileTests, readingTests}
 use Rattle.text.specs.Form.{Content}
 use Rattle.text.specs.Promise.{textTests}
 use Rattle.demands.specs.Table.{_given_, BadWindow, BadLines, BadPeriod, BadWeight, NotZero, BadCheck, BadHeading, runTable, vectorsTable, firstHitTable, listingTable, sourcesTable, mapTable, savingTable, blocksTable, readingTable, contentTable}
@@ -47,8 +47,8 @@ record Somewhere (bytes : List ℕ) : Type 0 where
   place : ℕ
   nonzero : getD bytes place 0 ≢ 0
 
-somewhere : (bytes : List ℕ) → (not (zeros bytes) ≡ true) ↔ Somewhere bytes
-unfolding zeros
+somewhere : (bytes : List ℕ) → (not (allZero bytes) ≡ true) ↔ Somewhere bytes
+unfolding allZero
 somewhere [] = (λ e. absurd (false≢true e), λ s. absurd (s .nonzero refl))
 somewhere (byte ∷ bytes) = go (ℕ-discrete byte 0) (somewhere bytes)
   where
@@ -56,12 +56,12 @@ somewhere (byte ∷ bytes) = go (ℕ-discrete byte 0) (somewhere bytes)
     behind zero e n = absurd (n e)
     behind (suc k) e n = record { place = k; nonzero = n }
 
-    go : Dec (byte ≡ 0) → (not (zeros bytes) ≡ true) ↔ Somewhere bytes → (not (zeros (byte ∷ bytes)) ≡ true) ↔ Somewhere (byte ∷ bytes)
+    go : Dec (byte ≡ 0) → (not (allZero bytes) ≡ true) ↔ Somewhere bytes → (not (allZero (byte ∷ bytes)) ≡ true) ↔ Somewhere (byte ∷ bytes)
     go (yes e) rest = rw (eq-eqb byte 0 e) (λ h. let s = rest .0 h in record { place = suc (s .place); nonzero = s .nonzero }, λ s. rest .1 (behind (s .place) e (s .nonzero)))
     go (no n) rest = rw (ne-eqb byte 0 n) (λ h. record { place = 0; nonzero = n }, λ s. refl)
 
 -- the first m of the bytes from d on, and of these the ones from s on
-not-zero : (bytes : List ℕ) (d s m : ℕ) → (not (zeros (drop s (take m (drop d bytes)))) ≡ true) ↔ NotZero bytes (d + s) (d + m)
+not-zero : (bytes : List ℕ) (d s m : ℕ) → (not (allZero (drop s (take m (drop d bytes)))) ≡ true) ↔ NotZero bytes (d + s) (d + m)
 not-zero bytes d s m = (λ e. let w = somewhere part .0 e in to (w .place) (w .nonzero) (decLt (s + w .place) m), λ z. somewhere part .1 (from z))
   where
     part : List ℕ
@@ -128,8 +128,8 @@ unfolding listingTests number
 listing-rows run source start room = first-hit-rows run source start next one (equal (length room) 0)
 
 -- "Map: 1, 2, 3, 10, then source by source 4 before 7, then 9."
-pub map-rows : (run : Run) (periods weights map : List ℕ) → Renders (Map.mapTests 255 run periods weights map) (mapTable run periods weights map)
-unfolding Map.mapTests number
+pub map-rows : (run : Run) (periods weights map : List ℕ) → Renders (mapTests 255 run periods weights map) (mapTable run periods weights map)
+unfolding mapTests number
 map-rows run periods weights map =
     run-rows run next
     one (unequal (length periods) (length weights)) next
@@ -137,8 +137,8 @@ map-rows run periods weights map =
     one (unequal (length map) (cellsOf run))
 
 -- "Saving: 1, 2, 3, 9."
-pub saving-rows : (run : Run) (map room : List ℕ) → Renders (saveTests run map room) (savingTable run map room)
-unfolding saveTests number
+pub saving-rows : (run : Run) (map room : List ℕ) → Renders (savingTests run map room) (savingTable run map room)
+unfolding savingTests number
 saving-rows run map room =
     then-two (run-rows run next either (one (unequal (length map) (cellsOf run))) (one (unequal (length room) (fileLength (cellsOf run)))))
 
@@ -152,16 +152,16 @@ unfolding headingTests blockTests contents number
 heading-rows block =
     then-three (check-row 0 block next either (either (one (not-zero block 4 20 504)) (one (unequal (getD block 4 0) 1))) (one (not-zero block 5 0 3)))
 
-blocks-rows : (cells : ℕ) (file : List ℕ) (n : ℕ) → Renders (mapTests cells file n) (blocksTable cells file n)
-unfolding mapTests blockTests contents number
+blocks-rows : (cells : ℕ) (file : List ℕ) (n : ℕ) → Renders (cellBlocksTests cells file n) (blocksTable cells file n)
+unfolding cellBlocksTests blockTests contents number
 blocks-rows cells file zero = no-rows
 blocks-rows cells file (suc k) =
     let block = blockAt file (suc k) in
     blocks-rows cells file k next (check-row (suc k) block next one (not-zero block 4 (cells - 504 * k) 504))
 
 -- "Reading: 13 for whole blocks, then block 0 for 14 and 15, then 1, 2, 3, 13 for the count, then the other blocks .., then 9."
-pub reading-rows : (file map : List ℕ) → Renders (readTests file map) (readingTable file map)
-unfolding readTests fileTests number
+pub reading-rows : (file map : List ℕ) → Renders (readingTests file map) (readingTable file map)
+unfolding readingTests fileTests number
 reading-rows file map =
     let cells = cellsOf (runOf file) in
     either (one (unequal (length file % 512) 0)) (one (equal (length file) 0)) next

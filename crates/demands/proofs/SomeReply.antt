@@ -20,24 +20,23 @@ use Rattle.hits.specs.declared.FirstHit.{FirstHit}
 use Rattle.hits.specs.declared.FirstHit.the-variants.{At, Nothing, Refused}
 use Rattle.hits.specs.declared.Listing.{Listing}
 use Rattle.hits.specs.declared.Listing.the-variants.{Done, More, Refused as Refused·listing}
-use Rattle.hits.specs.Promise.{firstHitTests, listingTests, first, saysFirst, Listed, saysListing, listed, written, FirstHitPromise, ListingPromise}
+use Rattle.hits.specs.Promise.{firstHitTests, listingTests, first, saysFirstHit, Listed, saysListing, listed, written, FirstHitPromise, ListingPromise}
 use Rattle.map.specs.declared.Added.{Added}
 use Rattle.map.specs.declared.Added.the-variants.{Done as Done·map, Refused as Refused·map}
-use Rattle.map.specs.Map as Map
-use Rattle.map.specs.Map.{MapPromise}
+use Rattle.map.specs.Map.{mapTests, MapPromise}
 use Rattle.map.proofs.Promise.{refused-call, granted-call}
 use Rattle.saved.specs.declared.Saved.{Saved}
 use Rattle.saved.specs.declared.Saved.the-variants.{Done as Done·saved, Refused as Refused·saved}
 use Rattle.saved.specs.declared.Loaded.{Loaded}
 use Rattle.saved.specs.declared.Loaded.the-variants.{Of, Refused as Refused·loaded}
-use Rattle.saved.specs.File.{saveTests, readTests}
-use Rattle.saved.specs.Promise.{SavePromise, ReadPromise}
-use Rattle.saved.proofs.Promises.{refuse-save, grant-save, refuse-read, grant-read}
+use Rattle.saved.specs.File.{savingTests, readingTests}
+use Rattle.saved.specs.Promise.{SavingPromise, ReadingPromise}
+use Rattle.saved.proofs.Promises.{refuse-saving, grant-saving, refuse-reading, grant-reading}
 use Rattle.demands.proofs.Rendered.{judged}
 
 -- Some reply fits the vectors call.
-pub vectors-some : (p r I : ℕ) → (steps : Steps) × VectorsPromise p r I steps
-vectors-some = Vectors.vectors-some
+pub vectors-exists : (p r I : ℕ) → (steps : Steps) × VectorsPromise p r I steps
+vectors-exists = Vectors.vectors-exists
 
 -- ---- first hit and listing: whatever is to be said, some reply says it
 
@@ -46,7 +45,7 @@ firstHit (answered none) = Nothing
 firstHit (answered (some y)) = At (record { 0 = y })
 firstHit (refused n) = Refused n
 
-says-first-hit : (s : Said (Option ℕ)) → saysFirst (firstHit s) ≡ s
+says-first-hit : (s : Said (Option ℕ)) → saysFirstHit (firstHit s) ≡ s
 says-first-hit (answered none) = refl
 says-first-hit (answered (some y)) = refl
 says-first-hit (refused n) = refl
@@ -68,42 +67,42 @@ says-list (answered l) = says-ended (l .count) (l .next)
 says-list (refused n) = refl
 
 -- Some reply fits the first-hit call.
-pub first-hit-some : (run : Run) (source : Source) (start : RunCell) → (r : FirstHit) × FirstHitPromise run source start r
+pub first-hit-exists : (run : Run) (source : Source) (start : RunCell) → (r : FirstHit) × FirstHitPromise run source start r
 unfolding FirstHitPromise
-first-hit-some run source start =
+first-hit-exists run source start =
     let s = reply (complaint (firstHitTests run source start)) (first (hitsFrom run source (start .0))) in
     (firstHit s, says-first-hit s)
 
 -- Some reply and some room after it fit the listing call.
-pub listing-some : (run : Run) (source : Source) (start : RunCell) (room : List ℕ) → (r : Listing) × (after : List ℕ) × ListingPromise run source start room r after
-listing-some run source start room =
+pub listing-exists : (run : Run) (source : Source) (start : RunCell) (room : List ℕ) → (r : Listing) × (after : List ℕ) × ListingPromise run source start room r after
+listing-exists run source start room =
     let o = complaint (listingTests run source start room) in
     let hits = hitsFrom run source (start .0) in
     let s = reply o (listed hits room) in
-    (listing s, stored o room (written hits room), record { says = says-list s; holds = refl })
+    (listing s, stored o room (written hits room), record { says = says-list s; stores = refl })
 
 -- ---- map, saving and reading: the call is refused, or it is done
 
 -- Some reply and some map after it fit the map call.
-pub map-some : (run : Run) (periods weights map : List ℕ) → (answer : Added) × (after : List ℕ) × MapPromise run periods weights map answer after
-map-some run periods weights map = go (judged (Map.mapTests 255 run periods weights map))
+pub map-exists : (run : Run) (periods weights map : List ℕ) → (answer : Added) × (after : List ℕ) × MapPromise run periods weights map answer after
+map-exists run periods weights map = go (judged (mapTests 255 run periods weights map))
   where
-    go : Passes (Map.mapTests 255 run periods weights map) ⊎ ((n : ℕ) × Fails (Map.mapTests 255 run periods weights map) n) → (answer : Added) × (after : List ℕ) × MapPromise run periods weights map answer after
+    go : Passes (mapTests 255 run periods weights map) ⊎ ((n : ℕ) × Fails (mapTests 255 run periods weights map) n) → (answer : Added) × (after : List ℕ) × MapPromise run periods weights map answer after
     go (inl p) = (Done·map, _, granted-call p refl)
     go (inr f) = (Refused·map (f .0), map, refused-call (f .1))
 
 -- Some reply and some file after it fit saving.
-pub saving-some : (run : Run) (map room : List ℕ) → (answer : Saved) × (after : List ℕ) × SavePromise run map room answer after
-saving-some run map room = go (judged (saveTests run map room))
+pub saving-exists : (run : Run) (map room : List ℕ) → (answer : Saved) × (after : List ℕ) × SavingPromise run map room answer after
+saving-exists run map room = go (judged (savingTests run map room))
   where
-    go : Passes (saveTests run map room) ⊎ ((n : ℕ) × Fails (saveTests run map room) n) → (answer : Saved) × (after : List ℕ) × SavePromise run map room answer after
-    go (inl p) = (Done·saved, _, grant-save p refl)
-    go (inr f) = (Refused·saved (f .0), room, refuse-save (f .1))
+    go : Passes (savingTests run map room) ⊎ ((n : ℕ) × Fails (savingTests run map room) n) → (answer : Saved) × (after : List ℕ) × SavingPromise run map room answer after
+    go (inl p) = (Done·saved, _, grant-saving p refl)
+    go (inr f) = (Refused·saved (f .0), room, refuse-saving (f .1))
 
 -- Some reply and some map after it fit reading.
-pub reading-some : (file map : List ℕ) → (answer : Loaded) × (after : List ℕ) × ReadPromise file map answer after
-reading-some file map = go (judged (readTests file map))
+pub reading-exists : (file map : List ℕ) → (answer : Loaded) × (after : List ℕ) × ReadingPromise file map answer after
+reading-exists file map = go (judged (readingTests file map))
   where
-    go : Passes (readTests file map) ⊎ ((n : ℕ) × Fails (readTests file map) n) → (answer : Loaded) × (after : List ℕ) × ReadPromise file map answer after
-    go (inl p) = (Of _, _, grant-read p refl refl)
-    go (inr f) = (Refused·loaded (f .0), map, refuse-read (f .1))
+    go : Passes (readingTests file map) ⊎ ((n : ℕ) × Fails (readingTests file map) n) → (answer : Loaded) × (after : List ℕ) × ReadingPromise file map answer after
+    go (inl p) = (Of _, _, grant-reading p refl refl)
+    go (inr f) = (Refused·loaded (f .0), map, refuse-reading (f .1))

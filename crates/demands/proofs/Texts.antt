@@ -10,17 +10,16 @@ use lib.ListN.{length}
 use borrow.Author.Tests.{ltb-false, le-ltb}
 use Rattle.scope.specs.declared.Run.{Run}
 use Rattle.scope.specs.Run.{Valid, cellsOf}
-use Rattle.scope.specs.Entry.{Entry}
+use Rattle.sources.specs.Entry.{Entry}
 use Rattle.scope.proofs.Judged.{Passes, sound, both}
 use Rattle.scope.proofs.Limits.{passes-when, passes-first, passes-then, valid-run, valid-run-passes}
 use Rattle.sources.specs.Lists.{AllValid}
 use Rattle.sources.proofs.Entries.{valid-entries, valid-entries-pass}
 use Rattle.text.specs.declared.Answer.the-variants.{Read}
 use Rattle.text.specs.declared.Input.{Input}
-use Rattle.text.specs.Form.{Content, Says as Spells, Small, AllSmall, runNumbers, textOf}
-use Rattle.text.specs.Promise.{textTests, TextPromise}
+use Rattle.text.specs.Form.{Content, Spells, Small, AllSmall, runNumbers, textOf}
+use Rattle.text.specs.Promise.{textTests, TextPromise, sourcesOf}
 use Rattle.text.proofs.Unique as Unique
-use Rattle.text.proofs.Unique.{sourcesOf}
 use Rattle.demands.specs.Texts.{Listable}
 
 -- what is within the limits has small numbers
@@ -65,5 +64,5 @@ pub text-accepted : (text : List ℕ) (input : Input) → TextPromise text input
 text-accepted text input h content = Iff·trans (Unique.accepted text input h content) (within text content)
 
 -- Two runs with their sources are not written the same.
-pub written-once : (a b : Content) → textOf a ≡ textOf b → a ≡ b
-written-once = Unique.text-injective
+pub text-injective : (a b : Content) → textOf a ≡ textOf b → a ≡ b
+text-injective = Unique.text-injective

@@ -7,13 +7,12 @@ use mathlib.Core.List.{List, [], _∷_, _++_, List·Permᴰ}
 use lib.Dec.{eqb}
 use lib.ListN.{length, getD, set}
 use Rattle.scope.specs.declared.Run.{Run}
-use Rattle.scope.specs.Run.{Valid, cellsOf}
-use Rattle.scope.specs.Entry.{Entry}
+use Rattle.scope.specs.Run.{Valid, Within, cellsOf}
+use Rattle.sources.specs.Entry.{Entry}
 use Rattle.map.specs.declared.Added.{Added}
 use Rattle.map.specs.declared.Added.the-variants.{Done}
 use Rattle.map.specs.Sum.{capped}
 use Rattle.map.specs.Map.{weightAt, added, MapPromise}
-use Rattle.map.proofs.Raised.{Within}
 use Rattle.sources.specs.Lists.{periodsOf, weightsOf, AllValid}
 use Rattle.demands.specs.Cut.{Cut}
 

@@ -7,8 +7,7 @@ use lib.ListN.{take}
 use Rattle.scope.specs.declared.Run.{Run}
 use Rattle.scope.specs.declared.Source.{Source}
 use Rattle.scope.specs.declared.RunCell.{RunCell}
-use Rattle.scope.specs.Run.{cellsOf, shiftOf}
-use Rattle.scope.proofs.Numbering.{Before}
+use Rattle.scope.specs.Run.{cellsOf, Before, shiftOf}
 use Rattle.hits.specs.declared.Listing.{Listing}
 use Rattle.hits.specs.declared.Listing.the-variants.{Done, More, Refused}
 use Rattle.hits.specs.Promise.{ListingPromise}

@@ -8,10 +8,10 @@ use Rattle.scope.specs.declared.Run.{Run}
 use Rattle.scope.specs.declared.Source.{Source}
 use Rattle.scope.specs.declared.RunCell.{RunCell}
 use Rattle.scope.specs.Run.{cellsOf}
-use Rattle.scope.specs.Entry.{Entry, entriesOf}
+use Rattle.sources.specs.Entry.{Entry, entriesOf}
 use Rattle.saved.specs.Block.{fourAt, checkOf}
 use Rattle.saved.specs.File.{blockAt, runOf, blocksFor, fileLength}
-use Rattle.text.specs.Form.{Content, Says as Spells}
+use Rattle.text.specs.Form.{Content, Spells}
 
 -- A row of the table: "no." and "given when".
 pub record Row : Type 1 where

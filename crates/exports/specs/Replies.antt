@@ -26,16 +26,16 @@ use Rattle.exports.specs.declared.RunReply.{RunReply}
 use Rattle.exports.specs.declared.TextReply.{TextReply}
 
 -- A run of its four numbers.
-abbrev pub runOf : ℕ → ℕ → ℕ → ℕ → Run
-runOf window interval first last = record { window = window; interval = interval; first = first; last = last }
+abbrev pub runWith : ℕ → ℕ → ℕ → ℕ → Run
+runWith window interval first last = record { window = window; interval = interval; first = first; last = last }
 
 -- The source with a period.
-abbrev pub sourceOf : ℕ → Source
-sourceOf period = record { period = period }
+abbrev pub sourceWith : ℕ → Source
+sourceWith period = record { period = period }
 
 -- The cell with a number.
-abbrev pub cellOf : ℕ → RunCell
-cellOf x = record { 0 = x }
+abbrev pub cellWith : ℕ → RunCell
+cellWith x = record { 0 = x }
 
 -- The step vectors: a pair is two vectors, the one that leads left first, and a single vector is one.
 abbrev pub tellSteps : Steps → StepsReply
@@ -55,7 +55,7 @@ tellListing (Done·listing n) = record { refusal = 0; more = 0; count = n; next 
 tellListing (More n cell) = record { refusal = 0; more = 1; count = n; next = cell .0 }
 tellListing (Refused·listing number) = record { refusal = number; more = 0; count = 0; next = 0 }
 
--- Adding to a map: the refusal's number alone.
+-- The map call: the refusal's number alone.
 abbrev pub tellAdded : Added → ℕ
 tellAdded Done·added = 0
 tellAdded (Refused·added number) = number

@@ -16,10 +16,10 @@ ghost use mathlib.Core.Path.{_≡_};
 ghost use Rattle.vectors.specs.Promise.{VectorsPromise};
 ghost use Rattle.hits.specs.Promise.{FirstHitPromise, ListingPromise};
 ghost use Rattle.map.specs.Map.{MapPromise};
-ghost use Rattle.saved.specs.Promise.{SavePromise, ReadPromise};
+ghost use Rattle.saved.specs.Promise.{SavingPromise, ReadingPromise};
 ghost use Rattle.text.specs.Promise.{TextPromise};
 ghost use Rattle.exports.specs.Exported.{Exported};
-ghost use Rattle.exports.specs.Replies.{runOf, sourceOf, cellOf, tellSteps, tellFirst, tellListing, tellAdded, tellSaved, tellLoaded, tellAnswer, tellText};
+ghost use Rattle.exports.specs.Replies.{runWith, sourceWith, cellWith, tellSteps, tellFirst, tellListing, tellAdded, tellSaved, tellLoaded, tellAnswer, tellText};
 
 // The step vectors.
 #[repr(C)]
@@ -157,7 +157,7 @@ fn tell_listing(reply: Listing) -> ListingReply
     }
 }
 
-// What adding came to, as a number.
+// What the map call came to, as a number.
 fn tell_added(reply: Added) -> u8
     ensures { λ r. ⌜ r ≡ tellAdded reply ⌝ }
 {
@@ -243,7 +243,7 @@ pub extern "C" fn zenithgong_first_hit(
     period: u32,
     start: u64,
 ) -> FirstHitReply
-    ensures { λ r. ⌜ Exported (FirstHitPromise (runOf window interval first last) (sourceOf period) (cellOf start)) tellFirst r ⌝ }
+    ensures { λ r. ⌜ Exported (FirstHitPromise (runWith window interval first last) (sourceWith period) (cellWith start)) tellFirst r ⌝ }
 {
     let run = Run {
         window,
@@ -265,7 +265,7 @@ pub extern "C" fn zenithgong_list_hits(
     start: u64,
     room: &mut [u64],
 ) -> ListingReply
-    ensures { λ r. ⌜ Exported (λ reply. ListingPromise (runOf window interval first last) (sourceOf period) (cellOf start) (now (room .entry)) reply (now (room .exit))) tellListing r ⌝ }
+    ensures { λ r. ⌜ Exported (λ reply. ListingPromise (runWith window interval first last) (sourceWith period) (cellWith start) (now (room .entry)) reply (now (room .exit))) tellListing r ⌝ }
 {
     let run = Run {
         window,
@@ -287,7 +287,7 @@ pub extern "C" fn zenithgong_add_to_map(
     weights: &[u32],
     map: &mut [u8],
 ) -> u8
-    ensures { λ r. ⌜ Exported (λ reply. MapPromise (runOf window interval first last) (now (periods .entry)) (now (weights .entry)) (now (map .entry)) reply (now (map .exit))) tellAdded r ⌝ }
+    ensures { λ r. ⌜ Exported (λ reply. MapPromise (runWith window interval first last) (now (periods .entry)) (now (weights .entry)) (now (map .entry)) reply (now (map .exit))) tellAdded r ⌝ }
 {
     let run = Run {
         window,
@@ -308,7 +308,7 @@ pub extern "C" fn zenithgong_save(
     map: &[u8],
     file: &mut [u8],
 ) -> u8
-    ensures { λ r. ⌜ Exported (λ reply. SavePromise (runOf window interval first last) (now (map .entry)) (now (file .entry)) reply (now (file .exit))) tellSaved r ⌝ }
+    ensures { λ r. ⌜ Exported (λ reply. SavingPromise (runWith window interval first last) (now (map .entry)) (now (file .entry)) reply (now (file .exit))) tellSaved r ⌝ }
 {
     let run = Run {
         window,
@@ -322,7 +322,7 @@ pub extern "C" fn zenithgong_save(
 // Public operation: `saved::read`, its reply in numbers.
 #[no_mangle]
 pub extern "C" fn zenithgong_read(file: &[u8], map: &mut [u8]) -> RunReply
-    ensures { λ r. ⌜ Exported (λ reply. ReadPromise (now (file .entry)) (now (map .entry)) reply (now (map .exit))) tellLoaded r ⌝ }
+    ensures { λ r. ⌜ Exported (λ reply. ReadingPromise (now (file .entry)) (now (map .entry)) reply (now (map .exit))) tellLoaded r ⌝ }
 {
     tell_loaded(saved::read(file, map))
 }

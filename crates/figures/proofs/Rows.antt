@@ -27,15 +27,15 @@ use Rattle.vectors.proofs.Theorems.{vectors-unique}
 use Rattle.saved.specs.declared.Saved.{Saved}
 use Rattle.saved.specs.declared.Saved.the-variants.{Done as Done·saved, Refused as Refused·saved}
 use Rattle.saved.specs.Block.{fourAt}
-use Rattle.saved.specs.File.{fileLength, fileOf, saveTests}
-use Rattle.saved.specs.Promise.{saidOfSaving, SavePromise}
+use Rattle.saved.specs.File.{fileLength, fileOf, savingTests}
+use Rattle.saved.specs.Promise.{saysSaving, SavingPromise}
 use Rattle.map.specs.declared.Added.the-variants.{Done as Done·map}
 use Rattle.map.specs.Map.{MapPromise}
 use Rattle.map.proofs.Promise.{map-unique}
 use Rattle.hits.specs.declared.Listing.{Listing}
 use Rattle.hits.specs.declared.Listing.the-variants.{Done, More, Refused}
 use Rattle.hits.specs.Promise.{firstHitTests, listingTests, first, Listed, saysListing, listed, written, ListingPromise}
-use Rattle.figures.specs.Table.{Place, vectors, hits, mapped, saved, Holds}
+use Rattle.figures.specs.Table.{HitPlace, vectors, hits, mapped, saved, Holds}
 
 -- ---- vectors
 
@@ -90,7 +90,7 @@ map-pos-same a b e = sym (back a) ∙ ap (map natAbs) e ∙ back b
     back [] = refl
     back (x ∷ xs) = ap (x ∷_) (back xs)
 
-module _ (run : Run) (period : ℕ) (figure : List Place) (cells : List ℕ)
+module _ (run : Run) (period : ℕ) (figure : List HitPlace) (cells : List ℕ)
     (passes : complaint (firstHitTests run (record { period = period }) (record { 0 = 0 })) ≡ none)
     (are : hitsFrom run (record { period = period }) 0 ≡ cells)
     (many : length cells ≡ length figure)
@@ -129,10 +129,10 @@ module _ (run : Run) (period : ℕ) (figure : List Place) (cells : List ℕ)
       held = rw (granted room e, are, whole room e)
 
       to : ListingPromise run (record { period = period }) (record { 0 = 0 }) room r after → (r ≡ Done (length figure)) × (map pos after ≡ map (λ place. cellOf run (place .offset) (place .line)) figure)
-      to h = (says-done (length figure) r (h .says ∙ said), ap (map pos) (h .holds ∙ held) ∙ at)
+      to h = (says-done (length figure) r (h .says ∙ said), ap (map pos) (h .stores ∙ held) ∙ at)
 
       from : (r ≡ Done (length figure)) × (map pos after ≡ map (λ place. cellOf run (place .offset) (place .line)) figure) → ListingPromise run (record { period = period }) (record { 0 = 0 }) room r after
-      from h = record { says = ap saysListing (h .0) ∙ sym said; holds = map-pos-same after cells (h .1 ∙ sym at) ∙ sym held }
+      from h = record { says = ap saysListing (h .0) ∙ sym said; stores = map-pos-same after cells (h .1 ∙ sym at) ∙ sym held }
 
 -- ---- maps
 
@@ -143,20 +143,20 @@ map-row run periods weights figure h answer after =
 
 -- ---- saved maps
 
-saved-done : (answer : Saved) → saidOfSaving answer ≡ answered tt → answer ≡ Done·saved
+saved-done : (answer : Saved) → saysSaving answer ≡ answered tt → answer ≡ Done·saved
 saved-done Done·saved e = refl
 saved-done (Refused·saved n) e = cc
 
 -- every admitted file is the one that the layout gives
 pub saved-row : (run : Run) (cells : List ℕ) (size first second : ℕ) → complaint (runTests run) ≡ none → eqb (length cells) (cellsOf run) ≡ true → eqb size (fileLength (cellsOf run)) ≡ true
     → length (fileOf run cells) ≡ size → fourAt (fileOf run cells) 508 ≡ first → fourAt (fileOf run cells) 1020 ≡ second → Holds (saved run cells size first second)
-unfolding saveTests
+unfolding savingTests
 saved-row run cells size first second passes whole room long a b file e = (only, (fileOf run cells, record { says = grant-reply tt tests; stores = grant-stored file (fileOf run cells) tests }))
   where
-    tests : Passes (saveTests run cells file)
+    tests : Passes (savingTests run cells file)
     tests = both (both (record { is = passes }) (sound (ap not whole))) (sound (rw e (ap not room)))
 
-    only : (answer : Saved) (after : List ℕ) → SavePromise run cells file answer after → (answer ≡ Done·saved) × (length after ≡ size) × (fourAt after 508 ≡ first) × (fourAt after 1020 ≡ second)
+    only : (answer : Saved) (after : List ℕ) → SavingPromise run cells file answer after → (answer ≡ Done·saved) × (length after ≡ size) × (fourAt after 508 ≡ first) × (fourAt after 1020 ≡ second)
     only answer after h =
         let is : after ≡ fileOf run cells = h .stores ∙ sym (grant-stored file (fileOf run cells) tests) in
         (saved-done answer (h .says ∙ sym (grant-reply tt tests)), ap length is ∙ long, ap (λ f. fourAt f 508) is ∙ a, ap (λ f. fourAt f 1020) is ∙ b)

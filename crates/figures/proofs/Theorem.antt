@@ -8,13 +8,13 @@ use lib.ListN.{length, getD}
 use Rattle.scope.specs.Run.{linesOf, cellsOf, cellOf, lineOf, offsetOf}
 use Rattle.scope.specs.Hit.{instant, isHit, hitsAmong, hitsFrom}
 use Rattle.scope.specs.Refusal.{complaint, number, windowTests, lineTests, periodTests, weightTests, runTests, sourceTests}
-use Rattle.scope.specs.Entry.{entriesOf, entryTests, listTests}
+use Rattle.sources.specs.Entry.{entriesOf, entryTests, listTests}
 use Rattle.map.specs.Sum.{raised}
 use Rattle.map.specs.Map.{mapTests, weightAt, added}
 use Rattle.vectors.specs.declared.Steps.the-variants.{Refused}
 use Rattle.vectors.specs.Promise.{VectorsPromise, vectorsTests}
 use Rattle.saved.specs.Block.{four, fourAt, weighted, checkOf, filled, sealed, blockOf}
-use Rattle.saved.specs.File.{heading, joined, cellBlocks, blocksFor, fileLength, fileOf}
+use Rattle.saved.specs.File.{heading, firstJoined, cellBlocks, blocksFor, fileLength, fileOf}
 use Rattle.hits.specs.Promise.{firstHitTests}
 use Rattle.figures.specs.Table.{Figure, vectors, hits, mapped, saved, Holds, lines-1-11, hits-1-11, example, exampleMap, table}
 use Rattle.figures.proofs.Rows.{vectors-row, pair, gcd-divisor, gcd-zero, hits-row, map-row, saved-row}
@@ -32,11 +32,11 @@ listed = hits-row lines-1-11 11 hits-1-11 (hitsFrom lines-1-11 (record { period 
 -- the map of 01's example, by computing its cells
 example-holds : Holds (mapped example (7 ∷ 3 ∷ []) (60 ∷ 200 ∷ []) exampleMap)
 unfolding mapTests runTests windowTests lineTests periodTests weightTests entryTests listTests entriesOf complaint added raised weightAt isHit instant lineOf offsetOf cellsOf linesOf
-example-holds = map-row example (7 ∷ 3 ∷ []) (60 ∷ 200 ∷ []) exampleMap (record { replies = refl; stores = refl })
+example-holds = map-row example (7 ∷ 3 ∷ []) (60 ∷ 200 ∷ []) exampleMap (record { says = refl; stores = refl })
 
 -- its file, by computing the bytes
 saved-holds : Holds (saved example exampleMap 1024 294 22327)
-unfolding runTests windowTests lineTests complaint cellsOf linesOf fileLength blocksFor fileOf heading cellBlocks joined blockOf sealed filled four fourAt checkOf weighted
+unfolding runTests windowTests lineTests complaint cellsOf linesOf fileLength blocksFor fileOf heading cellBlocks firstJoined blockOf sealed filled four fourAt checkOf weighted
 saved-holds = saved-row example exampleMap 1024 294 22327 refl refl refl refl refl refl
 
 -- each row, by computing its conditions

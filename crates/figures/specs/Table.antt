@@ -17,13 +17,13 @@ use Rattle.map.specs.Map.{MapPromise}
 use Rattle.saved.specs.declared.Saved.{Saved}
 use Rattle.saved.specs.declared.Saved.the-variants.{Done as Done·saved}
 use Rattle.saved.specs.Block.{fourAt}
-use Rattle.saved.specs.Promise.{SavePromise}
+use Rattle.saved.specs.Promise.{SavingPromise}
 use Rattle.hits.specs.declared.Listing.{Listing}
 use Rattle.hits.specs.declared.Listing.the-variants.{Done}
 use Rattle.hits.specs.Promise.{ListingPromise}
 
 -- A place of a hit, "as offset, line".
-pub record Place : Type 0 where
+pub record HitPlace : Type 0 where
   pub offset : ℤ
   pub line : ℕ
 
@@ -32,7 +32,7 @@ pub data Figure : Type 0 where
   -- "p, r, I: reply"
   vectors : (p r I : ℕ) → Steps → Figure
   -- "Hits on lines 1-11 as offset, line": of a run and a period
-  hits : Run → ℕ → List Place → Figure
+  hits : Run → ℕ → List HitPlace → Figure
   -- "The map above": of a run, the periods and weights listed, and the cells of the map, which was clear before
   mapped : Run → (periods weights cells : List ℕ) → Figure
   -- "saved, it is 1,024 bytes with checks 294 and 22,327": of a run and its map, the length and the checks of the two blocks
@@ -50,9 +50,9 @@ Holds (mapped run periods weights figure) =
     MapPromise run periods weights (replicate (length figure) 0) answer after ↔ ((answer ≡ Done·map) × (after ≡ figure))
 Holds (saved run cells size first second) =
     (file : List ℕ) → length file ≡ size →
-    ((answer : Saved) (after : List ℕ) → SavePromise run cells file answer after →
+    ((answer : Saved) (after : List ℕ) → SavingPromise run cells file answer after →
     (answer ≡ Done·saved) × (length after ≡ size) × (fourAt after 508 ≡ first) × (fourAt after 1020 ≡ second)) ×
-    ((after : List ℕ) × SavePromise run cells file Done·saved after)
+    ((after : List ℕ) × SavingPromise run cells file Done·saved after)
 
 -- An offset below 0, as in -3.
 abbrev pub minus : ℕ → ℤ
@@ -63,7 +63,7 @@ abbrev pub vector : ℤ → ℕ → Vector
 vector offset line = record { offset = offset; line = line }
 
 -- A place, as in (-3,2).
-abbrev pub place : ℤ → ℕ → Place
+abbrev pub place : ℤ → ℕ → HitPlace
 place offset line = record { offset = offset; line = line }
 
 -- "p 11, r 4, I 6 .. lines 1-11", with an interval whose remainder is 4.
@@ -71,7 +71,7 @@ abbrev pub lines-1-11 : Run
 lines-1-11 = record { window = 6; interval = 4; first = 1; last = 11 }
 
 -- "(-3,2) (1,3) (-2,5) (2,6) (-1,8) (0,11)".
-abbrev pub hits-1-11 : List Place
+abbrev pub hits-1-11 : List HitPlace
 hits-1-11 = place (minus 3) 2 ∷ place (pos 1) 3 ∷ place (minus 2) 5 ∷ place (pos 2) 6 ∷ place (minus 1) 8 ∷ place (pos 0) 11 ∷ []
 
 -- "run 4 10 1 5".

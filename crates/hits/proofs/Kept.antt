@@ -66,7 +66,7 @@ module _ {run : Run} {source : Source} {start : ℕ} where
       let c : min (length before) (length (room ++ x ∷ rest)) ≡ n = omega arith in
       record {
         says = rw (all, c, drop-at room (x ∷ rest) (length before) same);
-        holds = rw (all, take-at room (x ∷ rest) (length before) same, drop-of-length-le before {i = length (room ++ x ∷ rest)} (omega arith)) (sym (append-nil room));
+        stores = rw (all, take-at room (x ∷ rest) (length before) same, drop-of-length-le before {i = length (room ++ x ∷ rest)} (omega arith)) (sym (append-nil room));
       }
 
   -- no hit is left
@@ -80,5 +80,5 @@ module _ {run : Run} {source : Source} {start : ℕ} where
       let c : min (length before) n ≡ n = omega arith in
       record {
         says = rw (all, size, c, drop-of-length-le (take n room) {i = length before} (omega arith));
-        holds = rw (all, size, take-all (length before) (take n room) (omega arith), ← (k .past), take-append-drop n room);
+        stores = rw (all, size, take-all (length before) (take n room) (omega arith), ← (k .past), take-append-drop n room);
       }

@@ -20,7 +20,7 @@ use Rattle.scope.specs.Run.{Valid, ValidSource, lineOf, offsetOf}
 use Rattle.scope.specs.Hit.{isHit}
 use Rattle.scope.proofs.Numbering.{line-at, distance-at}
 use Rattle.hits.specs.declared.walk.Walk.{Walk}
-use Rattle.hits.specs.Walk.{Small, GoesBy, Leads, Stands, Begins, width}
+use Rattle.hits.specs.Walk.{Short, GoesBy, Leads, Stands, Begins, width}
 use Rattle.hits.proofs.Cells.{hit-point, point-hit}
 use Rattle.hits.proofs.Walks.{first-point}
 
@@ -90,7 +90,7 @@ pair-few {p} {r} {W} {A} {β} {C} {δ} h =
     (omega (arith, mul-le-mul-right β (e .right-some)), omega (arith, mul-le-mul-right δ (e .left-some)))
 
 module _ {run : Run} (v : Valid run) {source : Source} (s : ValidSource source) {left right : Vector} (h : IsPair (source .period) (run .interval % source .period) (width run source) left right) where
-  pub left-small : Small left (run .window)
+  pub left-small : Short left (run .window)
   left-small =
       let m = magnitudes h in
       let i = ap (λ (u : Vector). u .offset) (m .left-is) in
@@ -103,7 +103,7 @@ module _ {run : Run} (v : Valid run) {source : Source} (s : ValidSource source) 
         right = omega (arith, parts, neg-up (pos (m .A)), neg-dn (pos (m .A)));
       }
 
-  pub right-small : Small right (run .window)
+  pub right-small : Short right (run .window)
   right-small =
       let m = magnitudes h in
       let i = ap (λ (u : Vector). u .offset) (m .right-is) in
@@ -162,7 +162,7 @@ module _ {run : Run} (v : Valid run) {source : Source} (s : ValidSource source) 
   line-few : only .line ≤ source .period
   line-few = omega (arith, h .rises, div-le-self (source .period) (h .g))
 
-  pub single-small : Small only (run .window)
+  pub single-small : Short only (run .window)
   single-small =
       let z = h .at-zero in
       record {

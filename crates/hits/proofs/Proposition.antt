@@ -17,19 +17,8 @@ use Rattle.scope.specs.Run.{Valid}
 use Rattle.scope.specs.Hit.{Hits}
 use Rattle.scope.proofs.Limits.{halves}
 use Rattle.scope.proofs.Hits.{hits-on}
+use Rattle.hits.specs.Proposition.{InWindow, NextHit, Cases}
 use Rattle.hits.proofs.Cells.{Points, on-points, way, arrive}
-
--- the offset i lies in the window: -I/2 ≤ i < I/2
-pub record InWindow (run : Run) (i : ℤ) : Type 0 where
-  pub left : negℤ (pos (run .window / 2)) ≤ℤ i
-  pub right : i <ℤ pos (run .window / 2)
-
--- (i′, j′) is the next hit after line j in the window
-pub record NextHit (run : Run) (source : Source) (j : ℕ) (i′ : ℤ) (j′ : ℕ) : Type 0 where
-  pub hits : Hits run source i′ j′
-  pub inside : InWindow run i′
-  pub later : j < j′
-  pub none : (i″ : ℤ) (j″ : ℕ) → InWindow run i″ → j < j″ → j″ < j′ → Hits run source i″ j″ → ⊥
 
 module _ {run : Run} (v : Valid run) (source : Source) where
   -- an offset of the window, by its distance from the left edge
@@ -94,13 +83,7 @@ moved-both : (i y z : ℤ) (h A C d : ℕ) → i +ℤ pos h ≡ pos d → y ≡ 
 moved-both i y z h A C d is α γ l =
     omega (arith, parts, sum i (pos h), sum i y, sum (i +ℤ y) z, sum ((i +ℤ y) +ℤ z) (pos h), neg-up (pos A), neg-dn (pos A))
 
--- with A = -I/2: "add (α, β) if i ≥ A - α; add (γ, δ) if i < A + I - γ; add both otherwise. Just one case applies."
-pub record Cases (run : Run) (source : Source) (left right : Vector) (i : ℤ) (j : ℕ) : Type 0 where
-  pub by-left : (negℤ (pos (run .window / 2)) -ℤ left .offset) ≤ℤ i → NextHit run source j (i +ℤ left .offset) (j + left .line)
-  pub by-right : i <ℤ ((negℤ (pos (run .window / 2)) +ℤ pos (run .window)) -ℤ right .offset) → NextHit run source j (i +ℤ right .offset) (j + right .line)
-  pub by-both : i <ℤ (negℤ (pos (run .window / 2)) -ℤ left .offset) → ((negℤ (pos (run .window / 2)) +ℤ pos (run .window)) -ℤ right .offset) ≤ℤ i → NextHit run source j ((i +ℤ left .offset) +ℤ right .offset) (j + (left .line + right .line))
-  pub one : (negℤ (pos (run .window / 2)) -ℤ left .offset) ≤ℤ i → i <ℤ ((negℤ (pos (run .window / 2)) +ℤ pos (run .window)) -ℤ right .offset) → ⊥
-
+-- "002's proposition 2 gives the next hit after (i, j)", where a pair exists.
 pub proposition-two : {run : Run} {source : Source} {left right : Vector} {i : ℤ} {j : ℕ} → Valid run → IsPair (source .period) (run .interval % source .period) (run .window) left right → InWindow run i → Hits run source i j → Cases run source left right i j
 proposition-two {run} {source} {left} {right} {i} {j} v pair w h =
     let m = magnitudes pair in

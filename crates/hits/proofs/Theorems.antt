@@ -11,7 +11,7 @@ use Rattle.hits.specs.declared.FirstHit.{FirstHit}
 use Rattle.hits.specs.declared.FirstHit.the-variants.{At, Nothing, Refused}
 use Rattle.hits.specs.declared.Listing.{Listing}
 use Rattle.hits.specs.declared.Listing.the-variants.{Done, More, Refused as Refused·listing}
-use Rattle.hits.specs.Promise.{saysFirst, FirstHitPromise, Listed, saysListing, ListingPromise}
+use Rattle.hits.specs.Promise.{saysFirstHit, FirstHitPromise, Listed, saysListing, ListingPromise}
 
 apart : {A : Type 0} → _≡_ {A = ℕ} 0 1 → A
 apart e = absurd (omega arith)
@@ -20,42 +20,42 @@ same-cell : (x y : RunCell) → x .0 ≡ y .0 → x ≡ y
 same-cell x y e = ap (λ (n : ℕ). record { 0 = n }) e
 
 -- a reply of the first-hit call is told by what it says
-pub says-first-once : (a b : FirstHit) → saysFirst a ≡ saysFirst b → a ≡ b
-says-first-once (At x) (At y) e = ap At (same-cell x y (cc))
-says-first-once (At x) Nothing e = apart (cc)
-says-first-once (At x) (Refused n) e = apart (cc)
-says-first-once Nothing (At y) e = apart (cc)
-says-first-once Nothing Nothing e = refl
-says-first-once Nothing (Refused n) e = apart (cc)
-says-first-once (Refused n) (At y) e = apart (cc)
-says-first-once (Refused n) Nothing e = apart (cc)
-says-first-once (Refused n) (Refused m) e = cc
+pub says-first-hit-injective : (a b : FirstHit) → saysFirstHit a ≡ saysFirstHit b → a ≡ b
+says-first-hit-injective (At x) (At y) e = ap At (same-cell x y (cc))
+says-first-hit-injective (At x) Nothing e = apart (cc)
+says-first-hit-injective (At x) (Refused n) e = apart (cc)
+says-first-hit-injective Nothing (At y) e = apart (cc)
+says-first-hit-injective Nothing Nothing e = refl
+says-first-hit-injective Nothing (Refused n) e = apart (cc)
+says-first-hit-injective (Refused n) (At y) e = apart (cc)
+says-first-hit-injective (Refused n) Nothing e = apart (cc)
+says-first-hit-injective (Refused n) (Refused m) e = cc
 
 -- no second reply fits a first-hit call
-pub first-hit-once : (run : Run) (source : Source) (start : RunCell) (a b : FirstHit) → FirstHitPromise run source start a → FirstHitPromise run source start b → a ≡ b
+pub first-hit-unique : (run : Run) (source : Source) (start : RunCell) (a b : FirstHit) → FirstHitPromise run source start a → FirstHitPromise run source start b → a ≡ b
 unfolding FirstHitPromise
-first-hit-once run source start a b p q = says-first-once a b (p ∙ sym q)
+first-hit-unique run source start a b p q = says-first-hit-injective a b (p ∙ sym q)
 
 -- an answer says its count and the next hit
-answered-once : {a b : Listed} → answered a ≡ answered b → (a .count ≡ b .count) × (a .next ≡ b .next)
-answered-once {a} {b} e = let same : a ≡ b = cc in (ap (λ (l : Listed). l .count) same, ap (λ (l : Listed). l .next) same)
+answered-injective : {a b : Listed} → answered a ≡ answered b → (a .count ≡ b .count) × (a .next ≡ b .next)
+answered-injective {a} {b} e = let same : a ≡ b = cc in (ap (λ (l : Listed). l .count) same, ap (λ (l : Listed). l .next) same)
 
 -- a reply of the listing call is told by what it says
-pub says-listing-once : (a b : Listing) → saysListing a ≡ saysListing b → a ≡ b
-says-listing-once (Done n) (Done m) e = ap Done (answered-once e .0)
-says-listing-once (Done n) (More m y) e = let l = answered-once e .1 in apart (cc)
-says-listing-once (Done n) (Refused·listing m) e = apart (cc)
-says-listing-once (More n x) (Done m) e = let l = answered-once e .1 in apart (cc)
-says-listing-once (More n x) (More m y) e =
-    let k = answered-once e .0 in
-    let l = answered-once e .1 in
+pub says-listing-injective : (a b : Listing) → saysListing a ≡ saysListing b → a ≡ b
+says-listing-injective (Done n) (Done m) e = ap Done (answered-injective e .0)
+says-listing-injective (Done n) (More m y) e = let l = answered-injective e .1 in apart (cc)
+says-listing-injective (Done n) (Refused·listing m) e = apart (cc)
+says-listing-injective (More n x) (Done m) e = let l = answered-injective e .1 in apart (cc)
+says-listing-injective (More n x) (More m y) e =
+    let k = answered-injective e .0 in
+    let l = answered-injective e .1 in
     let c : x ≡ y = same-cell x y (cc) in
     cc
-says-listing-once (More n x) (Refused·listing m) e = apart (cc)
-says-listing-once (Refused·listing n) (Done m) e = apart (cc)
-says-listing-once (Refused·listing n) (More m y) e = apart (cc)
-says-listing-once (Refused·listing n) (Refused·listing m) e = cc
+says-listing-injective (More n x) (Refused·listing m) e = apart (cc)
+says-listing-injective (Refused·listing n) (Done m) e = apart (cc)
+says-listing-injective (Refused·listing n) (More m y) e = apart (cc)
+says-listing-injective (Refused·listing n) (Refused·listing m) e = cc
 
 -- no second reply fits a listing call, nor does the room hold anything else after it
-pub listing-once : {run : Run} {source : Source} {start : RunCell} {room : List ℕ} {a b : Listing} {after after′ : List ℕ} → ListingPromise run source start room a after → ListingPromise run source start room b after′ → (a ≡ b) × (after ≡ after′)
-listing-once {a = a} {b} p q = (says-listing-once a b (p .says ∙ sym (q .says)), p .holds ∙ sym (q .holds))
+pub listing-unique : {run : Run} {source : Source} {start : RunCell} {room : List ℕ} {a b : Listing} {after after′ : List ℕ} → ListingPromise run source start room a after → ListingPromise run source start room b after′ → (a ≡ b) × (after ≡ after′)
+listing-unique {a = a} {b} p q = (says-listing-injective a b (p .says ∙ sym (q .says)), p .stores ∙ sym (q .stores))

@@ -1,4 +1,5 @@
 pub mod Promise
+pub mod Proposition
 pub mod Search
 pub mod Walk
 pub mod List

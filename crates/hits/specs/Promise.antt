@@ -36,15 +36,15 @@ first [] = none
 first (x ∷ xs) = some x
 
 -- What a reply of the first-hit call says: a cell, "none", or a refusal's number.
-abbrev pub saysFirst : FirstHit → Said (Option ℕ)
-saysFirst (At cell) = answered (some (cell .0))
-saysFirst Nothing = answered none
-saysFirst (Refused n) = refused n
+abbrev pub saysFirstHit : FirstHit → Said (Option ℕ)
+saysFirstHit (At cell) = answered (some (cell .0))
+saysFirstHit Nothing = answered none
+saysFirstHit (Refused n) = refused n
 
 -- "the reply is the smallest hit cell not below it, or none": the first of the hits from the start on.
 unfoldable pub FirstHitPromise : Run → Source → RunCell → FirstHit → Type 0
 FirstHitPromise run source start r =
-    saysFirst r ≡ reply (complaint (firstHitTests run source start)) (first (hitsFrom run source (start .0)))
+    saysFirstHit r ≡ reply (complaint (firstHitTests run source start)) (first (hitsFrom run source (start .0)))
 
 -- "The answer is the count written and either done or more from x, x being the next hit itself."
 pub record Listed : Type 0 where
@@ -69,4 +69,4 @@ written hits room = take (length room) hits ++ drop (length hits) room
 -- The promise of the listing call: the reply, and what the room holds after.
 pub record ListingPromise (run : Run) (source : Source) (start : RunCell) (room : List ℕ) (r : Listing) (after : List ℕ) : Type 0 where
   pub says : saysListing r ≡ reply (complaint (listingTests run source start room)) (listed (hitsFrom run source (start .0)) room)
-  pub holds : after ≡ stored (complaint (listingTests run source start room)) room (written (hitsFrom run source (start .0)) room)
+  pub stores : after ≡ stored (complaint (listingTests run source start room)) room (written (hitsFrom run source (start .0)) room)

@@ -15,7 +15,7 @@ use Rattle.hits.specs.declared.walk.Place.{Place}
 use Rattle.hits.specs.declared.walk.Walk.{Walk}
 
 -- A vector that is short enough to be a step: it leads on, and its offset is no more than the window's width.
-pub record Small (v : Vector) (window : ℕ) : Type 0 where
+pub record Short (v : Vector) (window : ℕ) : Type 0 where
   pub wide : window ≤ 4096
   pub few : v .line ≤ 2147483647
   pub rises : 1 ≤ v .line

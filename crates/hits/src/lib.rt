@@ -33,7 +33,7 @@ pub enum Listing {
     Refused(u8),
 }
 
-// Inner step. What the tests come to that both calls begin with: the run, the source, the start.
+// What the tests come to that both calls begin with: the run, the source, the start.
 fn judge(run: Run, source: Source, start: RunCell) -> Verdict
     ensures { λ r. ⌜ r ≡ verdict (complaint (firstHitTests run source start)) ⌝ }
 {

@@ -8,7 +8,7 @@ ghost use mathlib.Core.Path.{_≡_};
 ghost use Prim.Native.Nat.{_+_, _*_, _/_, _≤_, _<_, _^_, min};
 ghost use lib.IntN.{pos, _+ℤ_, _-ℤ_};
 ghost use Rattle.scope.specs.Run.{Valid, ValidSource, cellsOf};
-ghost use Rattle.hits.specs.Walk.{Small, Joinable, GoesBy, Begins, Leads, Movable, Moved, Walking, Walks};
+ghost use Rattle.hits.specs.Walk.{Short, Joinable, GoesBy, Begins, Leads, Movable, Moved, Walking, Walks};
 
 // A step of the walk: so many ticks of offset, so many cells on.
 pub struct Step {
@@ -37,7 +37,7 @@ pub struct Walk {
 
 // A vector of the lattice as a step: each of its lines has a window's width of cells.
 fn step_of(v: Vector, window: u32) -> Step
-    requires { ⌜ Small v window ⌝ }
+    requires { ⌜ Short v window ⌝ }
     ensures { λ r. ⌜ (r .offset ≡ v .offset) × (pos (r .cells) ≡ pos (v .line * window) +ℤ v .offset) ⌝ }
 {
     Step {
@@ -69,7 +69,7 @@ impl Step {
 
 // The walk that goes by two vectors, in a window that begins at A and is `width` wide.
 fn walk_by(left: Vector, right: Vector, window: u32, width: u32) -> Walk
-    requires { ⌜ Small left window × Small right window × (width ≤ window) ⌝ }
+    requires { ⌜ Short left window × Short right window × (width ≤ window) ⌝ }
     ensures { λ r. ⌜ GoesBy left right window width r ⌝ }
 {
     let to_left = step_of(left, window);

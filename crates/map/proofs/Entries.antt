@@ -11,16 +11,16 @@ use lib.Dec.{leb}
 use lib.ListN.{length, getD}
 use borrow.Author.Tests.{lt-ltb, le-ltb, le-leb, lt-leb}
 use Rattle.scope.specs.declared.Run.{Run}
-use Rattle.scope.specs.Run.{Valid, shiftOf}
+use Rattle.scope.specs.Run.{Valid, Within, shiftOf}
 use Rattle.scope.proofs.Numbering.{IsBlock}
 use Rattle.scope.proofs.Hits.{hit-shift}
 use Rattle.map.specs.Sum.{capped, raised}
-use Rattle.scope.specs.Entry.{Entry}
+use Rattle.sources.specs.Entry.{Entry}
 pub use Rattle.sources.specs.Lists.{ValidEntry, AllValid}
 pub use Rattle.sources.proofs.Entries.{entry, entries-length, entries-from, valid-entries, valid-entries-pass}
 use Rattle.map.specs.Map.{weightAt, added}
 use Rattle.map.specs.Inner.{chosen}
-use Rattle.map.proofs.Raised.{Within, raised-again, raised-move, raised-length, raised-getD, raised-within, capped-below}
+use Rattle.map.proofs.Raised.{raised-again, raised-move, raised-length, raised-getD, raised-within, capped-below}
 
 -- ---- what they weigh
 

@@ -9,6 +9,7 @@ use mathlib.Core.List.{List, [], _∷_, _++_}
 use lib.ListN.{length, getD, take, drop, set, length-set, length-drop, List·getD-append}
 use lib.Seq.{ext-getD, getD-set-same, getD-set-other, getD-take, getD-drop, getD-append-add, length-take-le}
 use borrow.Rule.Slice.PartMut.{putMid, same-len-mid}
+use Rattle.scope.specs.Run.{Within}
 use Rattle.map.specs.Sum.{capped, raised}
 
 -- a sum stopped in between
@@ -21,10 +22,6 @@ capped-below c h = omega arith
 
 pub capped-le : (c a : ℕ) → capped c a ≤ c
 capped-le c a = omega arith
-
--- no cell is above the ceiling
-abbrev pub Within : ℕ → List ℕ → Type 0
-Within c cells = (i : ℕ) → getD cells i 0 ≤ c
 
 pub raised-length : (c : ℕ) (gain : ℕ → ℕ) (x : ℕ) (cells : List ℕ) → length (raised c gain x cells) ≡ length cells
 unfolding raised

@@ -15,11 +15,11 @@ use Rattle.map.specs.Sum.{capped, raised}
 use Rattle.map.specs.Inner.{spaced}
 use Rattle.scope.specs.declared.Run.{Run}
 use Rattle.scope.specs.declared.Source.{Source}
-use Rattle.scope.specs.Run.{lineOf}
+use Rattle.scope.specs.Run.{Within, lineOf}
 use Rattle.scope.specs.Hit.{isHit}
 use Rattle.scope.proofs.Hits.{origin, On, hit-on, miss-on, hit-or-miss}
 use Rattle.map.specs.Map.{weightAt}
-use Rattle.map.proofs.Raised.{Within, RaisedBelow, starts, over, store, patch}
+use Rattle.map.proofs.Raised.{RaisedBelow, starts, over, store, patch}
 
 pub spaced-hit : (p s d w : ℕ) → d % p ≡ s → spaced p s w d ≡ w
 unfolding spaced

@@ -10,9 +10,9 @@ use mathlib.Core.List.{List, [], _∷_}
 use lib.ListN.{length, getD, set}
 use Rattle.scope.specs.declared.Run.{Run}
 use Rattle.scope.specs.declared.Source.{Source}
-use Rattle.scope.specs.Run.{Valid, ValidSource, linesOf, cellsOf, lineOf}
+use Rattle.scope.specs.Run.{Valid, ValidSource, Within, linesOf, cellsOf, lineOf}
 use Rattle.scope.specs.Hit.{isHit}
-use Rattle.scope.specs.Entry.{Entry}
+use Rattle.sources.specs.Entry.{Entry}
 use Rattle.scope.proofs.Numbering.{cell-order}
 use Rattle.scope.proofs.Hits.{hit-or-miss, one-hit-on-line}
 use Rattle.hits.specs.declared.walk.Walk.{Walk}
@@ -21,7 +21,7 @@ use Rattle.hits.specs.Search.{FirstFrom}
 use Rattle.hits.specs.Walk.{Leads, Stands, Walking, NextLine, Walks, Begins}
 use Rattle.map.specs.Sum.{capped}
 use Rattle.map.specs.Map.{weightAt}
-use Rattle.map.proofs.Raised.{Within, RaisedBelow, starts, over, past, store}
+use Rattle.map.proofs.Raised.{RaisedBelow, starts, over, past, store}
 
 -- the one source, as a list
 abbrev only : Source → ℕ → List Entry

@@ -1,4 +1,4 @@
--- What the inner steps of the adding call speak of besides 01's words.
+-- What the inner steps of the map call speak of besides 01's words.
 use Prim.Native.Nat.{ℕ, _%_, min}
 use mathlib.Core.Path.{_≡_}
 use mathlib.Core.Bool.{cond}
@@ -9,12 +9,12 @@ use lib.ListN.{length}
 use Rattle.scope.specs.declared.Run.{Run}
 use Rattle.scope.specs.Run.{Valid, cellsOf}
 use Rattle.scope.specs.Refusal.{complaint}
-use Rattle.scope.specs.Entry.{Entry, entriesOf, listTests}
+use Rattle.sources.specs.Entry.{Entry, entriesOf, listTests}
 
 -- What is looked at before the first store: the run, the two lists and the map's length are in order.
-pub record Ready (run : Run) (periods weights map : List ℕ) : Type 0 where
+pub record Addable (run : Run) (periods weights map : List ℕ) : Type 0 where
   pub valid : Valid run
-  pub even : length periods ≡ length weights
+  pub equal : length periods ≡ length weights
   pub sound : complaint (listTests 255 1 (entriesOf periods weights)) ≡ none
   pub whole : length map ≡ cellsOf run
 

@@ -9,7 +9,7 @@ use Rattle.scope.specs.declared.Run.{Run}
 use Rattle.scope.specs.Run.{cellsOf}
 use Rattle.scope.specs.Hit.{isHit}
 use Rattle.scope.specs.Refusal.{Tests, _when_, _andThen_, Room, Lists, complaint, runTests}
-use Rattle.scope.specs.Entry.{Entry, entriesOf, listTests}
+use Rattle.sources.specs.Entry.{Entry, entriesOf, listTests}
 use Rattle.scope.specs.Reply.{Said, refused, answered, reply, stored}
 use Rattle.map.specs.Sum.{raised}
 use Rattle.map.specs.declared.Added.{Added}
@@ -33,11 +33,11 @@ unfoldable pub added : ℕ → Run → List Entry → List ℕ → List ℕ
 added ceiling run entries cells = raised ceiling (weightAt run entries) 0 cells
 
 -- 01's number for each case of the answer.
-abbrev pub says : Added → Said (Unit {0})
-says Done = answered tt
-says (Refused number) = refused number
+abbrev pub saysMap : Added → Said (Unit {0})
+saysMap Done = answered tt
+saysMap (Refused number) = refused number
 
--- The promise of the adding call: what it says, and what every cell holds afterwards.
+-- The promise of the map call: what it says, and what every cell holds afterwards.
 pub record MapPromise (run : Run) (periods weights map : List ℕ) (answer : Added) (after : List ℕ) : Type 0 where
-  pub replies : says answer ≡ reply (complaint (mapTests 255 run periods weights map)) tt
+  pub says : saysMap answer ≡ reply (complaint (mapTests 255 run periods weights map)) tt
   pub stores : after ≡ stored (complaint (mapTests 255 run periods weights map)) map (added 255 run (entriesOf periods weights) map)

@@ -9,12 +9,12 @@ ghost use mathlib.Core.List.{[], _∷_};
 ghost use Prim.Native.Nat.{min, _+_, _-_, _≤_, _<_, _^_};
 ghost use lib.ListN.{length};
 ghost use Rattle.scope.specs.Run.{Valid, ValidSource, IsBlock, cellsOf};
-ghost use Rattle.scope.specs.Entry.{entriesOf};
+ghost use Rattle.sources.specs.Entry.{entriesOf};
 ghost use Rattle.map.specs.Sum.{capped, raised};
 ghost use Rattle.map.specs.Map.{added, MapPromise};
-ghost use Rattle.map.specs.Inner.{Ready, chosen, spaced, shortestOf};
+ghost use Rattle.map.specs.Inner.{Addable, chosen, spaced, shortestOf};
 
-// The reply of the adding call.
+// The reply of the map call.
 pub enum Added {
     // Every cell holds its new value.
     Done,
@@ -105,7 +105,7 @@ fn add_source(run: Run, source: Source, weight: u8, map: &mut [u8])
 
 // Adds the sources with low ≤ period < high to the map of a run, one after the other.
 fn add_chosen(run: Run, periods: &[u32], weights: &[u32], low: u32, high: u32, map: &mut [u8])
-    requires { ⌜ Ready run (now periods) (now weights) (now map) ⌝ }
+    requires { ⌜ Addable run (now periods) (now weights) (now map) ⌝ }
     ensures { λ _. ⌜ now (map .exit) ≡ added 255 run (chosen low high (entriesOf (now (periods .entry)) (now (weights .entry)))) (now (map .entry)) ⌝ }
 {
     let mut place = 0;
@@ -140,7 +140,7 @@ fn block_from(run: Run, first: u32, lines: u32) -> Run
 
 // Adds the sources with period < high to the map of a run, one block of so many lines after the other.
 fn add_blocks(run: Run, periods: &[u32], weights: &[u32], high: u32, lines: u32, map: &mut [u8])
-    requires { ⌜ Ready run (now periods) (now weights) (now map) × (1 ≤ lines) ⌝ }
+    requires { ⌜ Addable run (now periods) (now weights) (now map) × (1 ≤ lines) ⌝ }
     ensures { λ _. ⌜ now (map .exit) ≡ added 255 run (chosen 0 high (entriesOf (now (periods .entry)) (now (weights .entry)))) (now (map .entry)) ⌝ }
 {
     let mut first = run.first;
@@ -170,7 +170,7 @@ fn shortest(periods: &[u32]) -> u32
 
 // Adds all sources to the map of a run: in blocks those with short periods, where the map is long, and in one go the others.
 fn add_all(run: Run, periods: &[u32], weights: &[u32], map: &mut [u8])
-    requires { ⌜ Ready run (now periods) (now weights) (now map) ⌝ }
+    requires { ⌜ Addable run (now periods) (now weights) (now map) ⌝ }
     ensures { λ _. ⌜ now (map .exit) ≡ added 255 run (entriesOf (now (periods .entry)) (now (weights .entry))) (now (map .entry)) ⌝ }
 {
     if LONG < map.len() {

@@ -9,13 +9,12 @@ use lib.ListN.{length, length-append}
 use Rattle.decimal.specs.Digits.{digits}
 use Rattle.decimal.proofs.Laws.{length-le, length-32}
 use Rattle.scope.specs.declared.Run.{Run}
-use Rattle.scope.specs.Run.{Valid, cellsOf}
-use Rattle.scope.specs.Entry.{Entry, entriesOf}
+use Rattle.scope.specs.Run.{Valid, Within, cellsOf}
+use Rattle.sources.specs.Entry.{Entry, entriesOf}
 use Rattle.text.specs.Form.{fields, line, Small, srcWord, runWord, runNumbers}
-use Rattle.map.proofs.Raised.{Within}
 use Rattle.map.proofs.Entries.{AllValid, valid-entries, added-length, added-within}
-use Rattle.report.specs.Report.{mapWord, endWord, runReport, entryReport, srcReport, cellReport, mapReport, above, endReport, zeros, mapOf, cellsReport, wholeReport}
-use Rattle.report.specs.Inner.{Accepted}
+use Rattle.report.specs.Report.{mapWord, endWord, runReport, entryReport, srcReport, cellReport, mapReport, above, endReport, zeros, reportedMap, cellsReport, wholeReport}
+use Rattle.report.specs.Inner.{Reportable}
 use Rattle.report.proofs.Mapped.{zeros-long}
 use Rattle.report.proofs.Sources.{hits-few}
 
@@ -90,12 +89,12 @@ above-few (v ∷ cells) = go (eqb v 0) (above-few cells)
 
 -- ---- the whole
 
-map-long : (run : Run) (entries : List Entry) → length (mapOf run entries) ≡ cellsOf run
-unfolding mapOf
+map-long : (run : Run) (entries : List Entry) → length (reportedMap run entries) ≡ cellsOf run
+unfolding reportedMap
 map-long run entries = added-length 255 run entries (zeros (cellsOf run)) ∙ zeros-long (cellsOf run)
 
-map-within : (run : Run) (entries : List Entry) → Within 255 (mapOf run entries)
-unfolding mapOf
+map-within : (run : Run) (entries : List Entry) → Within 255 (reportedMap run entries)
+unfolding reportedMap
 map-within run entries = added-within 255 run entries (zeros (cellsOf run))
 
 run-long : {run : Run} → Valid run → cellsOf run ≤ 65536 → length (runReport run) ≤ 59
@@ -104,12 +103,12 @@ run-long {run} v few =
     line-long runWord (runNumbers run ++ (cellsOf run ∷ []))
     (omega (arith, v .wide), (omega (arith, v .fits), (omega (arith, v .ordered, v .ends), (omega (arith, v .ends), (omega arith, tt)))))
 
-pub whole-long : {run : Run} {periods weights : List ℕ} → Accepted run periods weights → length (entriesOf periods weights) ≤ 64
+pub whole-long : {run : Run} {periods weights : List ℕ} → Reportable run periods weights → length (entriesOf periods weights) ≤ 64
     → length (wholeReport run (entriesOf periods weights)) ≤ 920650
 unfolding wholeReport cellsReport endReport
 whole-long {run} {periods} {weights} a few =
     let es = entriesOf periods weights in
-    let m = mapOf run es in
+    let m = reportedMap run es in
     let cells = map-long run es in
     let r = run-long (a .valid) (a .few) in
     let s = sources-long run 1 es (a .few) (omega arith) (valid-entries 255 1 es (record { is = a .sound })) in

@@ -8,14 +8,14 @@ use lib.ListN.{length, take, length-replicate}
 use borrow.Author.Tests.{eq-eqb}
 use Rattle.scope.specs.declared.Run.{Run}
 use Rattle.scope.specs.Run.{cellsOf}
-use Rattle.scope.specs.Entry.{entriesOf}
+use Rattle.sources.specs.Entry.{entriesOf}
 use Rattle.scope.proofs.Judged.{Passes, sound, both}
 use Rattle.scope.proofs.Limits.{valid-run-passes}
 use Rattle.map.specs.declared.Added.{Added}
 use Rattle.map.specs.Map.{mapTests, added, MapPromise}
 use Rattle.map.proofs.Promise.{stores-added}
-use Rattle.report.specs.Report.{zeros, mapOf}
-use Rattle.report.specs.Inner.{Accepted, cleared}
+use Rattle.report.specs.Report.{zeros, reportedMap}
+use Rattle.report.specs.Inner.{Reportable, cleared}
 
 pub zeros-long : (n : ℕ) → length (zeros n) ≡ n
 unfolding zeros
@@ -34,13 +34,13 @@ cleared-part n h =
     let all : n - 0 ≡ n = omega arith in
     ap (λ k. take k (zeros 65536)) all ∙ take-zeros n 65536 h
 
-pub map-is : {run : Run} {periods weights map : List ℕ} {answer : Added} {after : List ℕ} → Accepted run periods weights → map ≡ zeros (cellsOf run)
-    → MapPromise run periods weights map answer after → after ≡ mapOf run (entriesOf periods weights)
-unfolding mapTests mapOf
+pub map-is : {run : Run} {periods weights map : List ℕ} {answer : Added} {after : List ℕ} → Reportable run periods weights → map ≡ zeros (cellsOf run)
+    → MapPromise run periods weights map answer after → after ≡ reportedMap run (entriesOf periods weights)
+unfolding mapTests reportedMap
 map-is {run} {periods} {weights} {map} a e p =
     let long : length map ≡ cellsOf run = ap length e ∙ zeros-long (cellsOf run) in
     let passes : Passes (mapTests 255 run periods weights map) =
     both
-    (both (both (valid-run-passes (a .valid)) (sound (ap not (eq-eqb _ _ (a .even))))) (record { is = a .sound }))
+    (both (both (valid-run-passes (a .valid)) (sound (ap not (eq-eqb _ _ (a .equal))))) (record { is = a .sound }))
     (sound (ap not (eq-eqb _ _ long))) in
     stores-added passes p .1 ∙ ap (added 255 run (entriesOf periods weights)) e

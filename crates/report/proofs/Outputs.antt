@@ -10,20 +10,20 @@ use borrow.Author.Tests.{ltb-false}
 use Rattle.decimal.specs.Promises.{Written}
 use Rattle.scope.specs.declared.Run.{Run}
 use Rattle.scope.specs.Run.{cellsOf}
-use Rattle.scope.specs.Entry.{entriesOf}
+use Rattle.sources.specs.Entry.{entriesOf}
 use Rattle.scope.specs.Reply.{refused, answered}
 use Rattle.scope.proofs.Judged.{Passes}
 use Rattle.scope.proofs.Limits.{passes-when, passes-first, passes-then, valid-run}
 use Rattle.sources.specs.Lists.{periodsOf, weightsOf}
 use Rattle.sources.proofs.Entries.{periods-length, weights-length}
-use Rattle.text.specs.Form.{line, Content, Says}
-use Rattle.text.specs.Promise.{says as says-answer, replyTo, handed, padded, textTests, TextPromise}
+use Rattle.text.specs.Form.{line, Content, Spells}
+use Rattle.text.specs.Promise.{saysText, replyTo, handed, padded, textTests, TextPromise, sourcesOf}
 use Rattle.text.specs.declared.Input.{Input}
 use Rattle.text.specs.declared.Answer.the-variants.{Read, Refused}
-use Rattle.text.proofs.Unique.{sourcesOf, sources-handed, accepted}
+use Rattle.text.proofs.Unique.{sources-handed, accepted}
 use Rattle.report.specs.declared.Output.{Output}
-use Rattle.report.specs.Report.{refusedWord, wholeReport, printed, reportOf, blank, Holds, ReportPromise}
-use Rattle.report.specs.Inner.{Accepted}
+use Rattle.report.specs.Report.{refusedWord, wholeReport, printed, reportOf, blank, Prints, ReportPromise}
+use Rattle.report.specs.Inner.{Reportable}
 use Rattle.report.proofs.Mapped.{zeros-long}
 
 -- ---- the room
@@ -33,8 +33,8 @@ unfolding blank
 blank-long = zeros-long 921600
 
 -- what was written into the blank room is the output
-pub holds : {room bytes : List ℕ} {next : ℕ} {after : List ℕ} → room ≡ blank → Written room 0 bytes next after → Holds bytes (record { length = next; bytes = after })
-holds {room} {bytes} {next} {after} e w =
+pub prints : {room bytes : List ℕ} {next : ℕ} {after : List ℕ} → room ≡ blank → Written room 0 bytes next after → Prints bytes (record { length = next; bytes = after })
+prints {room} {bytes} {next} {after} e w =
     let count : next ≡ length bytes = w .place ∙ zero-add (length bytes) in
     record { counts = count; begins = w .kept ∙ ap (λ k. bytes ++ drop k room) count ∙ ap (λ b. bytes ++ drop (length bytes) b) e }
 
@@ -59,45 +59,45 @@ module _ {text : List ℕ} {input : Input} (p : TextPromise text input) where
     abbrev content : Content
     content = record { run = run; entries = sourcesOf input }
 
-    says : Says text content × Passes (textTests content)
-    says = accepted text input p content .0 (e, refl)
+    spells : Spells text content × Passes (textTests content)
+    spells = accepted text input p content .0 (e, refl)
 
     -- there are no more than 64 sources
     pub few-sources : length (take (input .count - 0) (input .periods)) ≤ 64
     unfolding textTests
     few-sources =
-        let few = ltb-false 64 (length (sourcesOf input)) (passes-when (passes-then (passes-first (passes-first (says .1))))) in
+        let few = ltb-false 64 (length (sourcesOf input)) (passes-when (passes-then (passes-first (passes-first (spells .1))))) in
         omega (arith, length-take (input .count - 0) (input .periods), p .counts, ap length (sources-handed text input p))
 
-    pub accepts : Accepted run (take (input .count - 0) (input .periods)) (take (input .count - 0) (input .weights))
+    pub accepts : Reportable run (take (input .count - 0) (input .periods)) (take (input .count - 0) (input .weights))
     unfolding textTests
     accepts =
-        let t = says .1 in
+        let t = spells .1 in
         let all : input .count - 0 ≡ input .count = omega arith in
         rw all
         (record {
-          valid = valid-run (passes-first (passes-first (passes-first t))) (omega (arith, says .0 .runSmall .1 .0));
+          valid = valid-run (passes-first (passes-first (passes-first t))) (omega (arith, spells .0 .runSmall .1 .0));
           few = ltb-false 65536 (cellsOf run) (passes-when (passes-then (passes-first t)));
-          even = length-take-le (input .count) (input .periods) periods-within ∙ sym (length-take-le (input .count) (input .weights) weights-within);
+          equal = length-take-le (input .count) (input .periods) periods-within ∙ sym (length-take-le (input .count) (input .weights) weights-within);
           sound = passes-then t .is;
         })
 
-    pub reports : {output : Output} → Holds (wholeReport run (entriesOf (take (input .count - 0) (input .periods)) (take (input .count - 0) (input .weights)))) output
+    pub reports : {output : Output} → Prints (wholeReport run (entriesOf (take (input .count - 0) (input .periods)) (take (input .count - 0) (input .weights)))) output
         → ReportPromise text output
     unfolding reportOf printed
     reports {output} h =
         let all : input .count - 0 ≡ input .count = omega arith in
-        let replied : replyTo (p .content) ≡ answered run = sym (p .replies) ∙ ap says-answer e in
+        let replied : replyTo (p .content) ≡ answered run = sym (p .says) ∙ ap saysText e in
         let whole : wholeReport run (entriesOf (take (input .count - 0) (input .periods)) (take (input .count - 0) (input .weights))) ≡ reportOf (p .content) =
         rw all (ap (wholeReport run) (sources-handed text input p) ∙ ap (λ r. printed r (handed (p .content))) (sym replied)) in
-        record { content = p .content; reads = p .reads; holds = subst (λ bytes. Holds bytes output) whole h }
+        record { content = p .content; reads = p .reads; says = subst (λ bytes. Prints bytes output) whole h }
 
-  pub reports-refusal : {n : ℕ} {output : Output} → input .answer ≡ Refused n → Holds (line refusedWord (n ∷ [])) output → ReportPromise text output
+  pub reports-refusal : {n : ℕ} {output : Output} → input .answer ≡ Refused n → Prints (line refusedWord (n ∷ [])) output → ReportPromise text output
   unfolding reportOf printed
   reports-refusal {n} {output} e h =
-      let replied : replyTo (p .content) ≡ refused n = sym (p .replies) ∙ ap says-answer e in
+      let replied : replyTo (p .content) ≡ refused n = sym (p .says) ∙ ap saysText e in
       record {
         content = p .content;
         reads = p .reads;
-        holds = subst (λ bytes. Holds bytes output) (ap (λ r. printed r (handed (p .content))) (sym replied)) h;
+        says = subst (λ bytes. Prints bytes output) (ap (λ r. printed r (handed (p .content))) (sym replied)) h;
       }

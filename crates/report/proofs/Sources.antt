@@ -12,18 +12,18 @@ use Rattle.scope.specs.declared.RunCell.{RunCell}
 use Rattle.scope.specs.declared.Source.{Source}
 use Rattle.scope.specs.Run.{Valid, ValidSource, cellsOf}
 use Rattle.scope.specs.Hit.{hitsFrom}
-use Rattle.scope.specs.Entry.{Entry, entriesOf}
+use Rattle.sources.specs.Entry.{Entry, entriesOf}
 use Rattle.scope.proofs.Judged.{Passes, sound, both, grant-reply}
 use Rattle.scope.proofs.Limits.{valid-run-passes, valid-source-passes, window-cells}
 use Rattle.scope.proofs.Hits.{length-hits}
 use Rattle.hits.specs.declared.Listing.{Listing}
 use Rattle.hits.specs.declared.Listing.the-variants.{Done}
 use Rattle.hits.specs.Promise.{firstHitTests, listingTests, listed, ListingPromise}
-use Rattle.hits.proofs.Theorems.{says-listing-once}
+use Rattle.hits.proofs.Theorems.{says-listing-injective}
 use Rattle.sources.proofs.Entries.{entry, entries-from}
 use Rattle.map.proofs.Entries.{AllValid, valid-entries}
 use Rattle.report.specs.Report.{entryReport, srcReport}
-use Rattle.report.specs.Inner.{Accepted}
+use Rattle.report.specs.Inner.{Reportable}
 use Rattle.report.proofs.Writing.{Writing, piece-fits, writing-more, writing-ends, writing-starts}
 
 -- ---- how many hits a source has
@@ -46,7 +46,7 @@ all-listed {run} {source} {start} {room} {r} v s zero long p =
     let few = hits-few run source in
     let all : min (length room) (length hits) ≡ length hits = omega arith in
     let none-left : drop (length room) hits ≡ [] = drop-of-length-le hits {i = length room} (omega arith) in
-    says-listing-once r (Done (length hits))
+    says-listing-injective r (Done (length hits))
     (p .says ∙ sym (grant-reply _ passes) ∙ rw (zero, all, none-left))
 
 -- ---- one line after the other
@@ -55,13 +55,13 @@ all-listed {run} {source} {start} {room} {r} v s zero long p =
 pub record SrcLines (before : List ℕ) (at : ℕ) (run : Run) (periods weights : List ℕ) (k next : ℕ) (room : List ℕ) : Type 0 where
   pub writing :
       Writing before at (srcReport run 1 (entriesOf periods weights)) (srcReport run (suc k) (entriesOf (drop k periods) (drop k weights))) next room
-  pub even : length periods ≡ length weights
+  pub equal : length periods ≡ length weights
   pub valid : AllValid 255 (entriesOf (drop k periods) (drop k weights))
 
-pub src-starts : {room : List ℕ} {at : ℕ} {run : Run} {periods weights : List ℕ} → Accepted run periods weights
+pub src-starts : {room : List ℕ} {at : ℕ} {run : Run} {periods weights : List ℕ} → Reportable run periods weights
     → at + length (srcReport run 1 (entriesOf periods weights)) ≤ length room → SrcLines room at run periods weights 0 at room
 src-starts {room} {at} {run} {periods} {weights} a h =
-    record { writing = writing-starts room at _ h; even = a .even; valid = valid-entries 255 1 (entriesOf periods weights) (record { is = a .sound }) }
+    record { writing = writing-starts room at _ h; equal = a .equal; valid = valid-entries 255 1 (entriesOf periods weights) (record { is = a .sound }) }
 
 module _ {before : List ℕ} {at : ℕ} {run : Run} {periods weights : List ℕ} {k next : ℕ} {room : List ℕ}
     (w : SrcLines before at run periods weights k next room) (h : k < length periods) where
@@ -69,7 +69,7 @@ module _ {before : List ℕ} {at : ℕ} {run : Run} {periods weights : List ℕ}
   here = entry (getD periods k 0) (getD weights k 0)
 
   split : entriesOf (drop k periods) (drop k weights) ≡ here ∷ entriesOf (drop (k + 1) periods) (drop (k + 1) weights)
-  split = entries-from periods weights k h (omega (arith, w .even)) ∙ rw (add-one k)
+  split = entries-from periods weights k h (omega (arith, w .equal)) ∙ rw (add-one k)
 
   from : srcReport run (suc k) (entriesOf (drop k periods) (drop k weights))
       ≡ entryReport run (k + 1) here ++ srcReport run (suc (k + 1)) (entriesOf (drop (k + 1) periods) (drop (k + 1) weights))
@@ -87,7 +87,7 @@ module _ {before : List ℕ} {at : ℕ} {run : Run} {periods weights : List ℕ}
 
   pub src-written : {end : ℕ} {after : List ℕ} → Written room next (entryReport run (k + 1) (entry (getD periods k 0) (getD weights k 0))) end after
       → SrcLines before at run periods weights (k + 1) end after
-  src-written v = record { writing = writing-more (w .writing) from v; even = w .even; valid = here-valid .1 }
+  src-written v = record { writing = writing-more (w .writing) from v; equal = w .equal; valid = here-valid .1 }
 
 pub src-ends : {before : List ℕ} {at : ℕ} {run : Run} {periods weights : List ℕ} {k next : ℕ} {room : List ℕ}
     → SrcLines before at run periods weights k next room → length periods ≤ k

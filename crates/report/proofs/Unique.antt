@@ -12,12 +12,12 @@ use Rattle.report.specs.Report.{reportOf, blank, ReportPromise}
 pub output-within : {text : List ℕ} {output : Output} → ReportPromise text output → output .length ≤ length (output .bytes)
 output-within p =
     let bytes = reportOf (p .content) in
-    omega (arith, p .holds .counts, ap length (p .holds .begins), length-append bytes (drop (length bytes) blank))
+    omega (arith, p .says .counts, ap length (p .says .begins), length-append bytes (drop (length bytes) blank))
 
 -- no second output fits
 pub report-unique : (text : List ℕ) (a b : Output) → ReportPromise text a → ReportPromise text b → a ≡ b
 report-unique text a b p q =
     let e = ap reportOf (reads-unique text (p .content) (q .content) (p .reads) (q .reads)) in
-    let counts : a .length ≡ b .length = p .holds .counts ∙ ap length e ∙ sym (q .holds .counts) in
-    let begins : a .bytes ≡ b .bytes = p .holds .begins ∙ ap (λ l. l ++ drop (length l) blank) e ∙ sym (q .holds .begins) in
+    let counts : a .length ≡ b .length = p .says .counts ∙ ap length e ∙ sym (q .says .counts) in
+    let begins : a .bytes ≡ b .bytes = p .says .begins ∙ ap (λ l. l ++ drop (length l) blank) e ∙ sym (q .says .begins) in
     λ k. record { length = counts k; bytes = begins k }

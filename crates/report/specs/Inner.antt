@@ -8,13 +8,13 @@ use Rattle.scope.specs.declared.Run.{Run}
 use Rattle.scope.specs.Run.{Valid, cellsOf}
 use Rattle.scope.specs.Refusal.{complaint}
 use Rattle.report.specs.Report.{zeros}
-use Rattle.scope.specs.Entry.{entriesOf, listTests}
+use Rattle.sources.specs.Entry.{entriesOf, listTests}
 
 -- A run and lists of sources that a text may hold: nothing of them is refused.
-pub record Accepted (run : Run) (periods weights : List ℕ) : Type 0 where
+pub record Reportable (run : Run) (periods weights : List ℕ) : Type 0 where
   pub valid : Valid run
   pub few : cellsOf run ≤ 65536
-  pub even : length periods ≡ length weights
+  pub equal : length periods ≡ length weights
   pub sound : complaint (listTests 255 1 (entriesOf periods weights)) ≡ none
 
 -- Cells for the longest run of a text, with nothing in them.

@@ -10,7 +10,7 @@ use Rattle.scope.specs.declared.Run.{Run}
 use Rattle.scope.specs.Run.{cellsOf}
 use Rattle.scope.specs.Hit.{hitsFrom}
 use Rattle.scope.specs.Reply.{Said, refused, answered}
-use Rattle.scope.specs.Entry.{Entry}
+use Rattle.sources.specs.Entry.{Entry}
 use Rattle.text.specs.Form.{line, runWord, srcWord, runNumbers, Content}
 use Rattle.text.specs.Promise.{Reads, replyTo, handed}
 use Rattle.map.specs.Map.{added}
@@ -64,12 +64,12 @@ unfoldable pub zeros : ℕ → List ℕ
 zeros n = replicate n 0
 
 -- "from a cleared map": the map of the run and its sources.
-unfoldable pub mapOf : Run → List Entry → List ℕ
-mapOf run entries = added 255 run entries (zeros (cellsOf run))
+unfoldable pub reportedMap : Run → List Entry → List ℕ
+reportedMap run entries = added 255 run entries (zeros (cellsOf run))
 
 -- Its lines, and the line that counts them.
 unfoldable pub cellsReport : Run → List Entry → List ℕ
-cellsReport run entries = mapReport 0 (mapOf run entries) ++ endReport (mapOf run entries)
+cellsReport run entries = mapReport 0 (reportedMap run entries) ++ endReport (reportedMap run entries)
 
 -- The whole report on a run and its sources.
 unfoldable pub wholeReport : Run → List Entry → List ℕ
@@ -89,7 +89,7 @@ unfoldable pub blank : List ℕ
 blank = zeros 921600
 
 -- The room begins with these bytes, and the rest of it is 0; their number is told.
-pub record Holds (bytes : List ℕ) (output : Output) : Type 0 where
+pub record Prints (bytes : List ℕ) (output : Output) : Type 0 where
   pub counts : output .length ≡ length bytes
   pub begins : output .bytes ≡ bytes ++ drop (length bytes) blank
 
@@ -97,4 +97,4 @@ pub record Holds (bytes : List ℕ) (output : Output) : Type 0 where
 pub record ReportPromise (text : List ℕ) (output : Output) : Type 0 where
   pub content : Option Content
   pub reads : Reads text content
-  pub holds : Holds (reportOf content) output
+  pub says : Prints (reportOf content) output

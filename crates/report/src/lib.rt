@@ -13,9 +13,9 @@ ghost use Rattle.decimal.specs.Promises.{Written};
 ghost use Rattle.text.specs.Form.{line};
 ghost use Rattle.scope.specs.Run.{Valid, ValidSource, cellsOf};
 ghost use Rattle.scope.specs.Hit.{hitsFrom};
-ghost use Rattle.scope.specs.Entry.{entriesOf};
-ghost use Rattle.report.specs.Report.{zeros, blank, runReport, entryReport, srcReport, cellReport, mapReport, above, endReport, cellsReport, wholeReport, refusedWord, Holds, ReportPromise};
-ghost use Rattle.report.specs.Inner.{Accepted, cleared};
+ghost use Rattle.sources.specs.Entry.{entriesOf};
+ghost use Rattle.report.specs.Report.{zeros, blank, runReport, entryReport, srcReport, cellReport, mapReport, above, endReport, cellsReport, wholeReport, refusedWord, Prints, ReportPromise};
+ghost use Rattle.report.specs.Inner.{Reportable, cleared};
 
 // What the list program prints: how many bytes, and the bytes; the rest is 0. The longest report has 920,650 bytes at most.
 pub struct Output {
@@ -168,7 +168,7 @@ fn write_source(
 
 // Writes the lines of all sources.
 fn write_sources(room: &mut [u8], at: usize, run: Run, periods: &[u32], weights: &[u32]) -> usize
-    requires { ⌜ Accepted run (now periods) (now weights) ⌝ }
+    requires { ⌜ Reportable run (now periods) (now weights) ⌝ }
     requires { ⌜ at + length (srcReport run 1 (entriesOf (now periods) (now weights))) ≤ length (now room) ⌝ }
     ensures { λ r. ⌜ Written (now (room .entry)) at (srcReport run 1 (entriesOf (now (periods .entry)) (now (weights .entry)))) r (now (room .exit)) ⌝ }
 {
@@ -213,7 +213,7 @@ fn write_map_of(
     weights: &[u32],
     map: &mut [u8],
 ) -> usize
-    requires { ⌜ Accepted run (now periods) (now weights) ⌝ }
+    requires { ⌜ Reportable run (now periods) (now weights) ⌝ }
     requires { ⌜ now map ≡ zeros (cellsOf run) ⌝ }
     requires { ⌜ at + length (cellsReport run (entriesOf (now periods) (now weights))) ≤ length (now room) ⌝ }
     ensures { λ r. ⌜ Written (now (room .entry)) at (cellsReport run (entriesOf (now (periods .entry)) (now (weights .entry)))) r (now (room .exit)) ⌝ }
@@ -224,7 +224,7 @@ fn write_map_of(
 
 // Writes the whole report on a run and its sources.
 fn write_report(room: &mut [u8], run: Run, periods: &[u32], weights: &[u32]) -> usize
-    requires { ⌜ Accepted run (now periods) (now weights) ⌝ }
+    requires { ⌜ Reportable run (now periods) (now weights) ⌝ }
     requires { ⌜ 0 + length (wholeReport run (entriesOf (now periods) (now weights))) ≤ length (now room) ⌝ }
     ensures { λ r. ⌜ Written (now (room .entry)) 0 (wholeReport run (entriesOf (now (periods .entry)) (now (weights .entry)))) r (now (room .exit)) ⌝ }
 {
@@ -244,8 +244,8 @@ fn write_report(room: &mut [u8], run: Run, periods: &[u32], weights: &[u32]) -> 
 
 // The output that is a report on a run and its sources.
 fn report_run(run: Run, periods: &[u32], weights: &[u32]) -> Output
-    requires { ⌜ Accepted run (now periods) (now weights) × (length (now periods) ≤ 64) ⌝ }
-    ensures { λ r. ⌜ Holds (wholeReport run (entriesOf (now (periods .entry)) (now (weights .entry)))) r ⌝ }
+    requires { ⌜ Reportable run (now periods) (now weights) × (length (now periods) ≤ 64) ⌝ }
+    ensures { λ r. ⌜ Prints (wholeReport run (entriesOf (now (periods .entry)) (now (weights .entry)))) r ⌝ }
 {
     let mut bytes = blank();
     let length = write_report(&mut bytes, run, periods, weights);
@@ -254,7 +254,7 @@ fn report_run(run: Run, periods: &[u32], weights: &[u32]) -> Output
 
 // The output that is a refusal.
 fn report_refusal(number: u8) -> Output
-    ensures { λ r. ⌜ Holds (line refusedWord (number ∷ [])) r ⌝ }
+    ensures { λ r. ⌜ Prints (line refusedWord (number ∷ [])) r ⌝ }
 {
     let mut bytes = blank();
     let numbers = [wide(number)];

@@ -1,61 +1,60 @@
--- Lists of bytes. Assumes nothing.
+-- Lists of bytes, of which no one is above 255. Assumes nothing.
 use Prim.Native.Nat.{ℕ, zero, suc, _-_, _*_, _≤_, _<_}
 use mathlib.Core.List.{List, [], _∷_, _++_}
 use native.Mathlib.Omega.{arith}
 use lib.ListN.{length, getD, take, drop, replicate}
+use Rattle.scope.specs.Run.{Within}
 use Rattle.saved.specs.Block.{four, filled, weighted, checkOf}
 use Rattle.saved.specs.File.{blockAt}
 use Rattle.saved.proofs.Number.{term-small}
 
--- every number of the list is a byte
-abbrev pub Bytes : List ℕ → Type 0
-Bytes [] = Unit {0}
-Bytes (b ∷ bs) = (b < 256) × Bytes bs
+pub bytes-take : (n : ℕ) (l : List ℕ) → Within 255 l → Within 255 (take n l)
+bytes-take zero l b i = omega arith
+bytes-take (suc n) [] b i = omega arith
+bytes-take (suc n) (x ∷ xs) b zero = b 0
+bytes-take (suc n) (x ∷ xs) b (suc i) = bytes-take n xs (λ k. b (suc k)) i
 
-pub bytes-at : (l : List ℕ) → Bytes l → (i : ℕ) → getD l i 0 < 256
-bytes-at [] b i = omega arith
-bytes-at (x ∷ xs) b zero = b .0
-bytes-at (x ∷ xs) b (suc i) = bytes-at xs (b .1) i
+pub bytes-drop : (n : ℕ) (l : List ℕ) → Within 255 l → Within 255 (drop n l)
+bytes-drop zero l b i = b i
+bytes-drop (suc n) [] b i = omega arith
+bytes-drop (suc n) (x ∷ xs) b i = bytes-drop n xs (λ k. b (suc k)) i
 
-pub bytes-take : (n : ℕ) (l : List ℕ) → Bytes l → Bytes (take n l)
-bytes-take zero l b = tt
-bytes-take (suc n) [] b = tt
-bytes-take (suc n) (x ∷ xs) b = (b .0, bytes-take n xs (b .1))
+pub bytes-append : (l r : List ℕ) → Within 255 l → Within 255 r → Within 255 (l ++ r)
+bytes-append [] r b c i = c i
+bytes-append (x ∷ xs) r b c zero = b 0
+bytes-append (x ∷ xs) r b c (suc i) = bytes-append xs r (λ k. b (suc k)) c i
 
-pub bytes-drop : (n : ℕ) (l : List ℕ) → Bytes l → Bytes (drop n l)
-bytes-drop zero l b = b
-bytes-drop (suc n) [] b = tt
-bytes-drop (suc n) (x ∷ xs) b = bytes-drop n xs (b .1)
+pub bytes-zeros : (n : ℕ) → Within 255 (replicate n 0)
+bytes-zeros zero i = omega arith
+bytes-zeros (suc n) zero = omega arith
+bytes-zeros (suc n) (suc i) = bytes-zeros n i
 
-pub bytes-append : (l r : List ℕ) → Bytes l → Bytes r → Bytes (l ++ r)
-bytes-append [] r b c = c
-bytes-append (x ∷ xs) r b c = (b .0, bytes-append xs r (b .1) c)
-
-pub bytes-zeros : (n : ℕ) → Bytes (replicate n 0)
-bytes-zeros zero = tt
-bytes-zeros (suc n) = (omega arith, bytes-zeros n)
-
-pub bytes-four : (n : ℕ) → Bytes (four n)
+pub bytes-four : (n : ℕ) → Within 255 (four n)
 unfolding four
-bytes-four n = (omega arith, (omega arith, (omega arith, (omega arith, tt))))
+bytes-four n zero = omega arith
+bytes-four n (suc zero) = omega arith
+bytes-four n (suc (suc zero)) = omega arith
+bytes-four n (suc (suc (suc zero))) = omega arith
+bytes-four n (suc (suc (suc (suc i)))) = omega arith
 
-pub bytes-filled : (l : List ℕ) → Bytes l → Bytes (filled l)
+pub bytes-filled : (l : List ℕ) → Within 255 l → Within 255 (filled l)
 unfolding filled
 bytes-filled l b = bytes-append (take 504 l) _ (bytes-take 504 l b) (bytes-zeros (504 - length l))
 
-pub bytes-blockAt : (file : List ℕ) (k : ℕ) → Bytes file → Bytes (blockAt file k)
+pub bytes-blockAt : (file : List ℕ) (k : ℕ) → Within 255 file → Within 255 (blockAt file k)
 unfolding blockAt
 bytes-blockAt file k b = bytes-take 512 (drop (512 * k) file) (bytes-drop (512 * k) file b)
 
 -- the check of bytes fits its four bytes
-weighted-small : (l : List ℕ) → Bytes l → (n : ℕ) → n ≤ 508 → weighted l n ≤ 129540 * n
+weighted-small : (l : List ℕ) → Within 255 l → (n : ℕ) → n ≤ 508 → weighted l n ≤ 129540 * n
 unfolding weighted
 weighted-small l b zero h = omega arith
 weighted-small l b (suc k) h =
     let e = weighted-small l b k (omega arith) in
-    let t = term-small {k = k} h (bytes-at l b k) in
+    let byte = b k in
+    let t = term-small {k = k} {b = getD l k 0} h (omega arith) in
     omega arith
 
-pub check-small : (l : List ℕ) → Bytes l → checkOf l < 4294967296
+pub check-small : (l : List ℕ) → Within 255 l → checkOf l < 4294967296
 unfolding checkOf
 check-small l b = let e = weighted-small l b 508 (omega arith) in omega arith

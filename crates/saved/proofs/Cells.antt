@@ -9,7 +9,7 @@ use lib.ListN.{length, take, drop, length-append, length-take, length-drop}
 use lib.Seq.{take-take, take-all, take-length, length-take-le, take-nil, take-append-add, drop-drop}
 use borrow.Rule.Slice.PartMut.{putMid, midOf, mid-len}
 use Rattle.saved.specs.Block.{filled, blockOf, contents}
-use Rattle.saved.specs.File.{joined, cellBlocks, blocksFor, fileLength, blockAt, bytesIn}
+use Rattle.saved.specs.File.{firstJoined, cellBlocks, blocksFor, fileLength, blockAt, bytesIn}
 use Rattle.saved.proofs.Lists.{take-take-min, take-drop-take}
 use Rattle.saved.proofs.Block.{length-block}
 use Rattle.saved.proofs.Writing.{Written, written-none, written-part, written-length, written-all}
@@ -44,7 +44,7 @@ block-take number l m e =
     ap (blockOf number) front ∙ block-front number l
 
 pub length-cellBlocks : (map : List ℕ) (n : ℕ) → length (cellBlocks map n) ≡ 512 * n
-unfolding cellBlocks joined
+unfolding cellBlocks firstJoined
 length-cellBlocks map zero = refl
 length-cellBlocks map (suc k) =
     let e = length-cellBlocks map k in
@@ -59,7 +59,7 @@ pub record CellsWritten (map before now : List ℕ) (k : ℕ) : Type 0 where
   pub written : Written before now (cellBlocks map k) (512 * k)
 
 pub cells-none : {map before : List ℕ} → length map < 2 ^ 37 → length before ≡ 512 * blocksFor (length map) → CellsWritten map before before 0
-unfolding cellBlocks joined
+unfolding cellBlocks firstJoined
 cells-none h e = record { few = h; room = e; within = omega arith; written = written-none _ }
 
 pub cells-room : {map before now : List ℕ} {k : ℕ} → CellsWritten map before now k → 504 * k < length map → 512 * k + 512 ≤ length now
@@ -70,7 +70,7 @@ cells-room s h =
     omega arith
 
 pub cells-more : {map before now part : List ℕ} {k end : ℕ} → CellsWritten map before now k → 504 * k < length map → end ≡ min (504 * k + 504) (length map) → part ≡ blockOf (k + 1) (take (end - 504 * k) (drop (504 * k) map)) → CellsWritten map before (putMid (512 * k) (512 * k + 512 - 512 * k) now part) (k + 1)
-unfolding cellBlocks joined
+unfolding cellBlocks firstJoined
 cells-more {map} {before} {now} {part} {k} {end} s h e p =
     let l = written-length (s .written) in
     let r = cells-room s h in
@@ -119,7 +119,7 @@ pub length-contents : (file : List ℕ) (k : ℕ) → 512 * k + 512 ≤ length f
 length-contents file k h = ap length (contents-at file k) ∙ simp (length-take, length-drop) (omega arith)
 
 pub length-bytesIn : (file : List ℕ) (k : ℕ) → 512 * k + 512 ≤ length file → length (bytesIn file k) ≡ 504 * k
-unfolding bytesIn joined
+unfolding bytesIn firstJoined
 length-bytesIn file zero h = refl
 length-bytesIn file (suc k) h =
     let e = length-bytesIn file k (omega arith) in
@@ -135,7 +135,7 @@ pub record CellsRead (file before now : List ℕ) (k : ℕ) : Type 0 where
   pub written : Written before now (take (length before) (bytesIn file k)) (min (504 * k) (length before))
 
 pub read-none : {file before : List ℕ} → length before < 2 ^ 37 → length file ≡ fileLength (length before) → CellsRead file before before 0
-unfolding bytesIn joined
+unfolding bytesIn firstJoined
 read-none {file} {before} h e = record {
   few = h;
   long = e;
@@ -153,7 +153,7 @@ read-room s h =
     omega arith
 
 pub read-more : {file before now part : List ℕ} {k end : ℕ} → CellsRead file before now k → 504 * k < length now → end ≡ min (504 * k + 504) (length now) → part ≡ take (512 * (k + 1) + 4 + (end - 504 * k) - (512 * (k + 1) + 4)) (drop (512 * (k + 1) + 4) file) → CellsRead file before (putMid (504 * k) (end - 504 * k) now part) (k + 1)
-unfolding bytesIn joined
+unfolding bytesIn firstJoined
 read-more {file} {before} {now} {part} {k} {end} s h e p =
     let all = length before in
     let at = 512 * (k + 1) + 4 in

@@ -9,14 +9,14 @@ use borrow.Author.Tests.{not-false}
 use lib.ListN.{length, getD, take, drop, replicate, length-append, length-take, length-drop}
 use lib.Seq.{getD-take, drop-cons, take-add, take-take, drop-drop}
 use Rattle.scope.specs.declared.Run.{Run}
-use Rattle.scope.specs.Run.{Valid}
+use Rattle.scope.specs.Run.{Valid, Within}
 use Rattle.scope.proofs.Judged.{Passes, sound, both}
 use Rattle.scope.proofs.Limits.{passes-first, passes-then, passes-when}
-use Rattle.saved.specs.Block.{four, fourAt, filled, sealed, blockOf, zeros}
+use Rattle.saved.specs.Block.{four, fourAt, filled, sealed, blockOf, allZero}
 use Rattle.saved.specs.File.{heading, blockAt, runOf, headingTests}
 use Rattle.saved.proofs.Lists.{take-drop-take}
-use Rattle.saved.proofs.Filling.{zeros-replicate}
-use Rattle.saved.proofs.Bytes.{Bytes, bytes-append, bytes-four, bytes-blockAt}
+use Rattle.saved.proofs.Filling.{all-zero-replicate}
+use Rattle.saved.proofs.Bytes.{bytes-append, bytes-four, bytes-blockAt}
 use Rattle.saved.proofs.Block.{length-four}
 use Rattle.saved.proofs.Cells.{contents-at, length-blockAt}
 use Rattle.saved.proofs.Sealing.{block-passes, block-is, four-back}
@@ -26,23 +26,13 @@ pub length-heading : (run : Run) → length (heading run) ≡ 20
 unfolding heading
 length-heading run = simp (length-append, length-four)
 
-bytes-heading : (run : Run) → Bytes (heading run)
-unfolding heading
-bytes-heading run = (
-  omega arith,
-  (
-    omega arith,
-    (
-      omega arith,
-      (
-        omega arith,
-        bytes-append (four (run .window) ++ four (run .interval) ++ four (run .first)) (four (run .last))
-            (bytes-append (four (run .window) ++ four (run .interval)) (four (run .first))
-            (bytes-append (four (run .window)) (four (run .interval)) (bytes-four _) (bytes-four _)) (bytes-four _)) (bytes-four _),
-      ),
-    ),
-  ),
-)
+bytes-heading : (run : Run) → Within 255 (heading run)
+unfolding heading four
+bytes-heading run =
+    bytes-append (four 1) (four (run .window) ++ four (run .interval) ++ four (run .first) ++ four (run .last)) (bytes-four 1)
+    (bytes-append (four (run .window) ++ four (run .interval) ++ four (run .first)) (four (run .last))
+    (bytes-append (four (run .window) ++ four (run .interval)) (four (run .first))
+    (bytes-append (four (run .window)) (four (run .interval)) (bytes-four _) (bytes-four _)) (bytes-four _)) (bytes-four _))
 
 -- the run is told, whatever follows
 pub run-told : (run : Run) (rest : List ℕ) → Valid run → runOf (blockOf 0 (heading run) ++ rest) ≡ run
@@ -59,8 +49,8 @@ version-there : (run : Run) → getD (blockOf 0 (heading run)) 4 0 ≡ 1
 unfolding blockOf sealed filled heading four
 version-there run = refl
 
-spare-there : (run : Run) → zeros (take 3 (drop 5 (blockOf 0 (heading run)))) ≡ true
-unfolding blockOf sealed filled heading four zeros
+spare-there : (run : Run) → allZero (take 3 (drop 5 (blockOf 0 (heading run)))) ≡ true
+unfolding blockOf sealed filled heading four allZero
 spare-there run = refl
 
 pub heading-passes : (run : Run) → Passes (headingTests (blockOf 0 (heading run)))
@@ -71,14 +61,14 @@ heading-passes run =
     (sound (ap not (spare-there run)))
 
 -- the version and the spare bytes of a block that passes, and the numbers behind them
-module _ (file : List ℕ) (l : 512 ≤ length file) (b : Bytes file) (p : Passes (headingTests (blockAt file 0))) where
+module _ (file : List ℕ) (l : 512 ≤ length file) (b : Within 255 file) (p : Passes (headingTests (blockAt file 0))) where
   spare-told : take 4 (drop 4 file) ≡ 1 ∷ 0 ∷ 0 ∷ 0 ∷ []
   unfolding headingTests blockAt
   spare-told =
       let version : getD file 4 0 ≡ 1 = sym (getD-take 512 file 4 0 (omega arith)) ∙ same _ _ (passes-then (passes-first p)) in
       let three : length (take 3 (drop 5 (take 512 file))) ≡ 3 = simp (length-take, length-drop) (omega arith) in
       let spare : take 3 (drop 5 file) ≡ 0 ∷ 0 ∷ 0 ∷ [] =
-      sym (take-drop-take 3 5 512 file (omega arith)) ∙ zeros-replicate _ (not-false _ (passes-when (passes-then p))) ∙ ap (λ n. replicate n 0) three in
+      sym (take-drop-take 3 5 512 file (omega arith)) ∙ all-zero-replicate _ (not-false _ (passes-when (passes-then p))) ∙ ap (λ n. replicate n 0) three in
       ap (take 4) (drop-cons file 4 0 (omega arith)) ∙ rw (version, spare)
 
   number-told : (k : ℕ) → k ≤ 16 → take 4 (drop k (drop 4 file)) ≡ four (fourAt file (4 + k))

@@ -12,16 +12,16 @@ use Rattle.scope.specs.declared.Verdict.{Verdict}
 use Rattle.scope.specs.declared.Verdict.the-variants.{Fine, Refused}
 use Rattle.scope.proofs.Judged.{Fails, Passes, no-tests, first, then, both, fine, blamed}
 use Rattle.saved.specs.Block.{blockTests}
-use Rattle.saved.specs.File.{blockAt, mapTests, blocksFor}
+use Rattle.saved.specs.File.{blockAt, cellBlocksTests, blocksFor}
 use Rattle.saved.proofs.Cells.{more-blocks, all-blocks}
 
 -- the first k blocks of a file with so many bytes of cells pass their tests
 pub record CellsJudged (size : ℕ) (file : List ℕ) (k : ℕ) : Type 0 where
   pub within : k ≤ blocksFor size
-  pub passes : Passes (mapTests size file k)
+  pub passes : Passes (cellBlocksTests size file k)
 
 pub judged-none : {size : ℕ} {file : List ℕ} → CellsJudged size file 0
-unfolding mapTests
+unfolding cellBlocksTests
 judged-none = record { within = omega arith; passes = no-tests }
 
 -- what the code found of block k + 1, as it takes it out of the file
@@ -36,25 +36,25 @@ as-block {size} {k} {file} {v} j =
 
 -- it passes too
 pub judged-more : {size k : ℕ} {file : List ℕ} {v : Verdict} → CellsJudged size file k → 504 * k < size → NextJudged size file k v → v ≡ Fine → CellsJudged size file (k + 1)
-unfolding mapTests
+unfolding cellBlocksTests
 judged-more {size} {k} {file} {v} s h j e = record {
   within = let b = more-blocks h in omega arith;
   passes = rw (add-one k) (both (s .passes) (fine (as-block j) e));
 }
 
 -- it fails: so do all together, whatever comes behind it
-fails-on : {n : ℕ} (size : ℕ) (file : List ℕ) (k d : ℕ) → Fails (mapTests size file k) n → Fails (mapTests size file (k + d)) n
-unfolding mapTests
+fails-on : {n : ℕ} (size : ℕ) (file : List ℕ) (k d : ℕ) → Fails (cellBlocksTests size file k) n → Fails (cellBlocksTests size file (k + d)) n
+unfolding cellBlocksTests
 fails-on size file k zero f = rw (add-zero k) f
 fails-on size file k (suc d) f = rw (add-suc k d) (first (fails-on size file k d f))
 
-pub judged-fails : {size k n : ℕ} {file : List ℕ} {v : Verdict} → CellsJudged size file k → 504 * k < size → NextJudged size file k v → v ≡ Refused n → Fails (mapTests size file (blocksFor size)) n
-unfolding mapTests
+pub judged-fails : {size k n : ℕ} {file : List ℕ} {v : Verdict} → CellsJudged size file k → 504 * k < size → NextJudged size file k v → v ≡ Refused n → Fails (cellBlocksTests size file (blocksFor size)) n
+unfolding cellBlocksTests
 judged-fails {size} {k} {n} {file} {v} s h j e =
     let b = more-blocks h in
     let all : suc k + (blocksFor size - suc k) ≡ blocksFor size = omega arith in
     rw all at (fails-on size file (suc k) (blocksFor size - suc k) (then (s .passes) (blamed (as-block j) e)))
 
 -- no cells are left: all pass
-pub judged-all : {size k : ℕ} {file : List ℕ} → CellsJudged size file k → size ≤ 504 * k → Passes (mapTests size file (blocksFor size))
+pub judged-all : {size k : ℕ} {file : List ℕ} → CellsJudged size file k → size ≤ 504 * k → Passes (cellBlocksTests size file (blocksFor size))
 judged-all s h = rw (all-blocks (s .within) h) at (s .passes)

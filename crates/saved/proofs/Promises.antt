@@ -12,27 +12,27 @@ use Rattle.scope.proofs.Limits.{passes-first, passes-then}
 use Rattle.saved.proofs.Differs.{same}
 use Rattle.saved.specs.declared.Saved.the-variants.{Done, Refused as Refused·saved}
 use Rattle.saved.specs.declared.Loaded.the-variants.{Of, Refused as Refused·loaded}
-use Rattle.saved.specs.File.{blocksFor, fileLength, fileOf, blockAt, runOf, mapOf, headingTests, mapTests, fileTests, saveTests, readTests}
-use Rattle.saved.specs.Promise.{SavePromise, ReadPromise}
+use Rattle.saved.specs.File.{blocksFor, fileLength, fileOf, blockAt, runOf, mapOf, headingTests, cellBlocksTests, fileTests, savingTests, readingTests}
+use Rattle.saved.specs.Promise.{SavingPromise, ReadingPromise}
 
-pub refuse-save : {run : Run} {map file : List ℕ} {n : ℕ} → Fails (saveTests run map file) n → SavePromise run map file (Refused·saved n) file
-refuse-save f = record { says = refuse-reply tt f; stores = refuse-stored _ _ f }
+pub refuse-saving : {run : Run} {map file : List ℕ} {n : ℕ} → Fails (savingTests run map file) n → SavingPromise run map file (Refused·saved n) file
+refuse-saving f = record { says = refuse-reply tt f; stores = refuse-stored _ _ f }
 
-pub grant-save : {run : Run} {map file after : List ℕ} → Passes (saveTests run map file) → after ≡ fileOf run map → SavePromise run map file Done after
-grant-save p e = record { says = grant-reply tt p; stores = e ∙ grant-stored _ _ p }
+pub grant-saving : {run : Run} {map file after : List ℕ} → Passes (savingTests run map file) → after ≡ fileOf run map → SavingPromise run map file Done after
+grant-saving p e = record { says = grant-reply tt p; stores = e ∙ grant-stored _ _ p }
 
-pub refuse-read : {file map : List ℕ} {n : ℕ} → Fails (readTests file map) n → ReadPromise file map (Refused·loaded n) map
-refuse-read f = record { says = refuse-reply _ f; stores = refuse-stored _ _ f }
+pub refuse-reading : {file map : List ℕ} {n : ℕ} → Fails (readingTests file map) n → ReadingPromise file map (Refused·loaded n) map
+refuse-reading f = record { says = refuse-reply _ f; stores = refuse-stored _ _ f }
 
-pub grant-read : {run : Run} {file map after : List ℕ} → Passes (readTests file map) → run ≡ runOf file → after ≡ mapOf file → ReadPromise file map (Of run) after
-grant-read p r e = record { says = ap answered r ∙ grant-reply _ p; stores = e ∙ grant-stored _ _ p }
+pub grant-reading : {run : Run} {file map after : List ℕ} → Passes (readingTests file map) → run ≡ runOf file → after ≡ mapOf file → ReadingPromise file map (Of run) after
+grant-reading p r e = record { says = ap answered r ∙ grant-reply _ p; stores = e ∙ grant-stored _ _ p }
 
 -- what is so of a file that passes its tests
 pub record Accepted (file : List ℕ) : Type 0 where
   pub headed : Passes (headingTests (blockAt file 0))
   pub limited : Passes (runTests (runOf file))
   pub long : length file ≡ fileLength (cellsOf (runOf file))
-  pub celled : Passes (mapTests (cellsOf (runOf file)) file (blocksFor (cellsOf (runOf file))))
+  pub celled : Passes (cellBlocksTests (cellsOf (runOf file)) file (blocksFor (cellsOf (runOf file))))
 
 pub accepted : {file : List ℕ} → Passes (fileTests file) → Accepted file
 unfolding fileTests

@@ -7,82 +7,81 @@ use mathlib.Core.List.{List}
 use native.Mathlib.Omega.{arith}
 use lib.ListN.{length}
 use Rattle.scope.specs.declared.Run.{Run}
-use Rattle.scope.specs.Run.{Valid, cellsOf}
+use Rattle.scope.specs.Run.{Valid, Within, cellsOf}
 use Rattle.scope.proofs.Judged.{sound, both, grant-stored, said-answered}
 use Rattle.scope.proofs.Limits.{valid-run-passes, passes-first, passes-then}
 use Rattle.saved.specs.declared.Saved.{Saved}
 use Rattle.saved.specs.declared.Saved.the-variants.{Done, Refused as Refused·saved}
 use Rattle.saved.specs.declared.Loaded.{Loaded}
 use Rattle.saved.specs.declared.Loaded.the-variants.{Of, Refused as Refused·loaded}
-use Rattle.saved.specs.File.{fileLength, fileOf, mapOf, saveTests, readTests}
-use Rattle.saved.specs.Promise.{saidOfSaving, saidOfReading, SavePromise, ReadPromise}
-use Rattle.saved.proofs.Bytes.{Bytes}
+use Rattle.saved.specs.File.{fileLength, fileOf, mapOf, savingTests, readingTests}
+use Rattle.saved.specs.Promise.{saysSaving, saysReading, SavingPromise, ReadingPromise}
 use Rattle.saved.proofs.Differs.{agrees, same}
-use Rattle.saved.proofs.Promises.{accepted, grant-save, grant-read}
+use Rattle.saved.proofs.Promises.{accepted, grant-saving, grant-reading}
 use Rattle.saved.proofs.Saving.{run-read, map-read, file-passes}
 use Rattle.saved.proofs.Accepting.{length-mapOf, file-is}
 
 -- what two replies say is the same only if they are
-same-saved : (a b : Saved) → saidOfSaving a ≡ saidOfSaving b → a ≡ b
-same-saved Done Done e = refl
-same-saved Done (Refused·saved n) e = absurd (let z : _≡_ {A = ℕ} 0 1 = cc in omega arith)
-same-saved (Refused·saved m) Done e = absurd (let z : _≡_ {A = ℕ} 0 1 = cc in omega arith)
-same-saved (Refused·saved m) (Refused·saved n) e = cc
+says-saving-injective : (a b : Saved) → saysSaving a ≡ saysSaving b → a ≡ b
+says-saving-injective Done Done e = refl
+says-saving-injective Done (Refused·saved n) e = absurd (let z : _≡_ {A = ℕ} 0 1 = cc in omega arith)
+says-saving-injective (Refused·saved m) Done e = absurd (let z : _≡_ {A = ℕ} 0 1 = cc in omega arith)
+says-saving-injective (Refused·saved m) (Refused·saved n) e = cc
 
-same-loaded : (a b : Loaded) → saidOfReading a ≡ saidOfReading b → a ≡ b
-same-loaded (Of q) (Of r) e = cc
-same-loaded (Of q) (Refused·loaded n) e = absurd (let z : _≡_ {A = ℕ} 0 1 = cc in omega arith)
-same-loaded (Refused·loaded m) (Of r) e = absurd (let z : _≡_ {A = ℕ} 0 1 = cc in omega arith)
-same-loaded (Refused·loaded m) (Refused·loaded n) e = cc
+says-reading-injective : (a b : Loaded) → saysReading a ≡ saysReading b → a ≡ b
+says-reading-injective (Of q) (Of r) e = cc
+says-reading-injective (Of q) (Refused·loaded n) e = absurd (let z : _≡_ {A = ℕ} 0 1 = cc in omega arith)
+says-reading-injective (Refused·loaded m) (Of r) e = absurd (let z : _≡_ {A = ℕ} 0 1 = cc in omega arith)
+says-reading-injective (Refused·loaded m) (Refused·loaded n) e = cc
 
 -- no second reply fits
-pub one-saving : {run : Run} {map file f g : List ℕ} {a b : Saved} → SavePromise run map file a f → SavePromise run map file b g → (a ≡ b) × (f ≡ g)
-one-saving {a} {b} p q = (same-saved a b (p .says ∙ sym (q .says)), p .stores ∙ sym (q .stores))
+pub saving-unique : {run : Run} {map file f g : List ℕ} {a b : Saved} → SavingPromise run map file a f → SavingPromise run map file b g → (a ≡ b) × (f ≡ g)
+saving-unique {a} {b} p q = (says-saving-injective a b (p .says ∙ sym (q .says)), p .stores ∙ sym (q .stores))
 
-pub one-reading : {file map f g : List ℕ} {a b : Loaded} → ReadPromise file map a f → ReadPromise file map b g → (a ≡ b) × (f ≡ g)
-one-reading {a} {b} p q = (same-loaded a b (p .says ∙ sym (q .says)), p .stores ∙ sym (q .stores))
+pub reading-unique : {file map f g : List ℕ} {a b : Loaded} → ReadingPromise file map a f → ReadingPromise file map b g → (a ≡ b) × (f ≡ g)
+reading-unique {a} {b} p q = (says-reading-injective a b (p .says ∙ sym (q .says)), p .stores ∙ sym (q .stores))
 
 -- so an outcome that is admitted is the only one
-pub only-saving : {run : Run} {map file f : List ℕ} {a : Saved} → SavePromise run map file a f → (answer : Saved) (after : List ℕ) → SavePromise run map file answer after ↔ (answer ≡ a) × (after ≡ f)
-only-saving p answer after = (λ q. one-saving q p, λ e. rw (e .0, e .1) p)
+pub only-saving : {run : Run} {map file f : List ℕ} {a : Saved} → SavingPromise run map file a f → (answer : Saved) (after : List ℕ) → SavingPromise run map file answer after ↔ (answer ≡ a) × (after ≡ f)
+only-saving p answer after = (λ q. saving-unique q p, λ e. rw (e .0, e .1) p)
 
-pub only-reading : {file map f : List ℕ} {a : Loaded} → ReadPromise file map a f → (answer : Loaded) (after : List ℕ) → ReadPromise file map answer after ↔ (answer ≡ a) × (after ≡ f)
-only-reading p answer after = (λ q. one-reading q p, λ e. rw (e .0, e .1) p)
+pub only-reading : {file map f : List ℕ} {a : Loaded} → ReadingPromise file map a f → (answer : Loaded) (after : List ℕ) → ReadingPromise file map answer after ↔ (answer ≡ a) × (after ≡ f)
+only-reading p answer after = (λ q. reading-unique q p, λ e. rw (e .0, e .1) p)
 
 -- a run within the limits, its map and a room of the file's length are saved
-pub saves : {run : Run} {map room : List ℕ} → Valid run → length map ≡ cellsOf run → length room ≡ fileLength (cellsOf run) → SavePromise run map room Done (fileOf run map)
-unfolding saveTests
-saves v m l = grant-save (both (both (valid-run-passes v) (sound (agrees refl refl m))) (sound (agrees refl refl l))) refl
+pub saves : {run : Run} {map room : List ℕ} → Valid run → length map ≡ cellsOf run → length room ≡ fileLength (cellsOf run) → SavingPromise run map room Done (fileOf run map)
+unfolding savingTests
+saves v m l = grant-saving (both (both (valid-run-passes v) (sound (agrees refl refl m))) (sound (agrees refl refl l))) refl
 
 -- what a saving that is done tells
 record Stored (run : Run) (map file : List ℕ) : Type 0 where
   cells : length map ≡ cellsOf run
   is : file ≡ fileOf run map
 
-stored-there : {run : Run} {map room file : List ℕ} → SavePromise run map room Done file → Stored run map file
-unfolding saveTests
+stored-there : {run : Run} {map room file : List ℕ} → SavingPromise run map room Done file → Stored run map file
+unfolding savingTests
 stored-there {run} {map} {room} {file} p =
-    let passes = said-answered (saveTests run map room) (p .says) .0 in
+    let passes = said-answered (savingTests run map room) (p .says) .0 in
     record {
       cells = same _ _ (passes-then (passes-first passes));
       is = p .stores ∙ sym (grant-stored room (fileOf run map) passes);
     }
 
 -- "A saved map reads back as it was written": whatever the map holds, and whatever the lent room held
-pub reads-back : {run : Run} {map room file into : List ℕ} → Valid run → Bytes map → SavePromise run map room Done file → length into ≡ length map → (answer : Loaded) (after : List ℕ) → ReadPromise file into answer after ↔ (answer ≡ Of run) × (after ≡ map)
-unfolding readTests
+pub reads-back : {run : Run} {map room file into : List ℕ} → Valid run → Within 255 map → SavingPromise run map room Done file → length into ≡ length map → (answer : Loaded) (after : List ℕ) → ReadingPromise file into answer after ↔ (answer ≡ Of run) × (after ≡ map)
+unfolding readingTests
 reads-back {run} {map} {room} {file} {into} v b p l =
     let s = stored-there p in
     let same-run = run-read run map v (s .cells) in
     let fits = sound (agrees refl (ap cellsOf (sym same-run)) (l ∙ s .cells)) in
-    only-reading (rw (s .is) (grant-read (both (file-passes run map v (s .cells) b) fits) (sym same-run) (sym (map-read run map v (s .cells)))))
+    only-reading (rw (s .is) (grant-reading (both (file-passes run map v (s .cells) b) fits) (sym same-run) (sym (map-read run map v (s .cells)))))
 
 -- "and an accepted file written again gives the same bytes": into any room of the file's length
-pub writes-back : {run : Run} {file into map room : List ℕ} → Bytes file → ReadPromise file into (Of run) map → length room ≡ length file → (answer : Saved) (after : List ℕ) → SavePromise run map room answer after ↔ (answer ≡ Done) × (after ≡ file)
-unfolding readTests saveTests
+pub writes-back : {run : Run} {file into map room : List ℕ} → Within 255 file → ReadingPromise file into (Of run) map → length room ≡ length file → (answer : Saved) (after : List ℕ) → SavingPromise run map room answer after ↔ (answer ≡ Done) × (after ≡ file)
+unfolding readingTests savingTests
 writes-back {run} {file} {into} {map} {room} b p l =
-    let told = said-answered (readTests file into) (p .says) in
+    let told = said-answered (readingTests file into) (p .says) in
     let a = accepted (passes-first (told .0)) in
     let held : map ≡ mapOf file = p .stores ∙ sym (grant-stored into (mapOf file) (told .0)) in
     let tests = both (both (a .limited) (sound (agrees refl refl (length-mapOf file a b)))) (sound (agrees refl refl (l ∙ a .long))) in
-    only-saving (rw (told .1, held) (grant-save tests (sym (file-is file a b))))
+    only-saving (rw (told .1, held) (grant-saving tests (sym (file-is file a b))))

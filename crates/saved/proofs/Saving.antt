@@ -8,13 +8,13 @@ use borrow.Author.Tests.{ne-eqb}
 use lib.ListN.{length, take, drop, length-append, length-drop}
 use lib.Seq.{take-nil, take-all, take-at, drop-at, take-add, drop-drop, take-append-add}
 use Rattle.scope.specs.declared.Run.{Run}
-use Rattle.scope.specs.Run.{Valid, cellsOf}
+use Rattle.scope.specs.Run.{Valid, Within, cellsOf}
 use Rattle.scope.proofs.Judged.{Passes, sound, both, no-tests}
 use Rattle.scope.proofs.Limits.{valid-run-passes, cells-few}
 use Rattle.saved.specs.Block.{filled, blockOf, contents}
-use Rattle.saved.specs.File.{heading, joined, cellBlocks, blocksFor, fileLength, fileOf, blockAt, runOf, bytesIn, mapOf, mapTests, fileTests}
-use Rattle.saved.proofs.Joined.{joined-at}
-use Rattle.saved.proofs.Bytes.{Bytes, bytes-drop}
+use Rattle.saved.specs.File.{heading, firstJoined, cellBlocks, blocksFor, fileLength, fileOf, blockAt, runOf, bytesIn, mapOf, cellBlocksTests, fileTests}
+use Rattle.saved.proofs.Joined.{first-joined-at}
+use Rattle.saved.proofs.Bytes.{bytes-drop}
 use Rattle.saved.proofs.Block.{length-block, take-filled}
 use Rattle.saved.proofs.Cells.{begun-block, enough-blocks, length-cellBlocks, length-bytesIn}
 use Rattle.saved.proofs.Sealing.{block-passes, block-contents}
@@ -41,7 +41,7 @@ cells-at run map k h =
     ap (λ m. take 512 (drop m (fileOf run map))) next
     ∙ ap (take 512) (sym (drop-drop (512 * k) 512 (fileOf run map)))
     ∙ ap (λ l. take 512 (drop (512 * k) l)) (drop-at (blockOf 0 (heading run)) (cellBlocks map n) 512 (length-block 0 (heading run)))
-    ∙ joined-at n k (record { each = λ j b. length-block (suc j) (drop (504 * j) map) }) h
+    ∙ first-joined-at n k (record { each = λ j b. length-block (suc j) (drop (504 * j) map) }) h
 
 module _ (run : Run) (map : List ℕ) (v : Valid run) (whole : length map ≡ cellsOf run) where
   pub run-read : runOf (fileOf run map) ≡ run
@@ -58,7 +58,7 @@ module _ (run : Run) (map : List ℕ) (v : Valid run) (whole : length map ≡ ce
 
   -- the cells that the first n blocks hold are the map's
   cells-read : (n : ℕ) → n ≤ blocksFor (cellsOf run) → take (length map) (bytesIn (fileOf run map) n) ≡ take (504 * n) map
-  unfolding bytesIn joined
+  unfolding bytesIn firstJoined
   cells-read zero h = take-nil (length map)
   cells-read (suc k) h =
       let saved = fileOf run map in
@@ -91,12 +91,12 @@ module _ (run : Run) (map : List ℕ) (v : Valid run) (whole : length map ≡ ce
       ∙ cells-read n (le-refl n)
       ∙ take-all (504 * n) map (omega arith)
 
-  pub cells-pass : Bytes map → (n : ℕ) → n ≤ blocksFor (cellsOf run) → Passes (mapTests (cellsOf run) (fileOf run map) n)
-  unfolding mapTests
+  pub cells-pass : Within 255 map → (n : ℕ) → n ≤ blocksFor (cellsOf run) → Passes (cellBlocksTests (cellsOf run) (fileOf run map) n)
+  unfolding cellBlocksTests
   cells-pass b zero h = no-tests
   cells-pass b (suc k) h = both (cells-pass b k (omega arith)) (rw (cells-at run map k h) (block-passes (suc k) (drop (504 * k) map) (cellsOf run - 504 * k) (number-fits h) (bytes-drop (504 * k) map b) (simp length-drop (omega arith))))
 
-  pub file-passes : Bytes map → Passes (fileTests (fileOf run map))
+  pub file-passes : Within 255 map → Passes (fileTests (fileOf run map))
   unfolding fileTests fileLength
   file-passes b =
       let saved = fileOf run map in

@@ -7,12 +7,13 @@ use native.Mathlib.Nat.{add-zero, le-of-eq}
 use native.Mathlib.Omega.{arith}
 use lib.ListN.{length, getD, take, drop, length-take, length-drop, take-append-drop}
 use lib.Seq.{getD-take, getD-drop, take-all, take-add, drop-at, take-at}
-use Rattle.saved.specs.Block.{four, fourAt, checkOf, filled, sealed, blockOf, contents, zeros, blockTests}
+use Rattle.scope.specs.Run.{Within}
+use Rattle.saved.specs.Block.{four, fourAt, checkOf, filled, sealed, blockOf, contents, allZero, blockTests}
 use borrow.Author.Tests.{not-false}
 use Rattle.scope.proofs.Judged.{Passes, sound, both}
 use Rattle.scope.proofs.Limits.{passes-first, passes-then, passes-when}
-use Rattle.saved.proofs.Filling.{zeros-behind, zeros-replicate}
-use Rattle.saved.proofs.Bytes.{Bytes, bytes-take, bytes-drop, bytes-append, bytes-four, bytes-filled, check-small}
+use Rattle.saved.proofs.Filling.{all-zero-behind, all-zero-replicate}
+use Rattle.saved.proofs.Bytes.{bytes-take, bytes-drop, bytes-append, bytes-four, bytes-filled, check-small}
 use Rattle.saved.proofs.Block.{length-four, length-filled, length-front, check-front}
 use Rattle.saved.proofs.Differs.{agrees, same}
 
@@ -22,21 +23,21 @@ unfolding four fourAt
 four-read n rest h = omega arith
 
 -- bytes that are read as a number are that number, written
-low : {a : ℕ} (m : ℕ) → a < 256 → (a + 256 * m) % 256 ≡ a
+low : {a : ℕ} (m : ℕ) → a ≤ 255 → (a + 256 * m) % 256 ≡ a
 low m h = omega arith
 
-high : {a : ℕ} (m : ℕ) → a < 256 → (a + 256 * m) / 256 ≡ m
+high : {a : ℕ} (m : ℕ) → a ≤ 255 → (a + 256 * m) / 256 ≡ m
 high m h = omega arith
 
-four-of : {a b c d : ℕ} → a < 256 → b < 256 → c < 256 → d < 256 → four (a + 256 * (b + 256 * (c + 256 * d))) ≡ a ∷ b ∷ c ∷ d ∷ []
+four-of : {a b c d : ℕ} → a ≤ 255 → b ≤ 255 → c ≤ 255 → d ≤ 255 → four (a + 256 * (b + 256 * (c + 256 * d))) ≡ a ∷ b ∷ c ∷ d ∷ []
 unfolding four
 four-of {a} {b} {c} {d} ha hb hc hd =
     let e₃ : d % 256 ≡ d = omega arith in
     rw (low (b + 256 * (c + 256 * d)) ha, high (b + 256 * (c + 256 * d)) ha, low (c + 256 * d) hb, high (c + 256 * d) hb, low d hc, high d hc, e₃)
 
-four-there : (l : List ℕ) → length l ≡ 4 → Bytes l → four (fourAt l 0) ≡ l
+four-there : (l : List ℕ) → length l ≡ 4 → Within 255 l → four (fourAt l 0) ≡ l
 unfolding fourAt
-four-there (a ∷ b ∷ c ∷ d ∷ []) e h = four-of (h .0) (h .1 .0) (h .1 .1 .0) (h .1 .1 .1 .0)
+four-there (a ∷ b ∷ c ∷ d ∷ []) e h = four-of (h 0) (h 1) (h 2) (h 3)
 four-there [] e h = absurd (omega arith)
 four-there (a ∷ []) e h = absurd (omega arith)
 four-there (a ∷ b ∷ []) e h = absurd (omega arith)
@@ -51,7 +52,7 @@ pub four-drop : (l : List ℕ) (k n : ℕ) → 4 ≤ n → fourAt (take n (drop 
 unfolding fourAt
 four-drop l k n h = rw (byte-at l k n 0 (omega arith), byte-at l k n 1 (omega arith), byte-at l k n 2 (omega arith), byte-at l k n 3 (omega arith), add-zero k)
 
-pub four-back : (l : List ℕ) (k : ℕ) → Bytes l → k + 4 ≤ length l → take 4 (drop k l) ≡ four (fourAt l k)
+pub four-back : (l : List ℕ) (k : ℕ) → Within 255 l → k + 4 ≤ length l → take 4 (drop k l) ≡ four (fourAt l k)
 four-back l k b h = sym (ap four (sym (four-drop l k 4 (omega arith))) ∙ four-there (take 4 (drop k l)) (simp (length-take, length-drop) (omega arith)) (bytes-take 4 (drop k l) (bytes-drop k l b)))
 
 -- the parts of a block that is laid down
@@ -69,7 +70,7 @@ module _ (k : ℕ) (bytes : List ℕ) where
       ap (λ l. fourAt l 0) (append-assoc (four k) (filled bytes) (four (checkOf (four k ++ filled bytes))))
       ∙ four-read k (filled bytes ++ four (checkOf (four k ++ filled bytes))) h
 
-  block-check : Bytes bytes → fourAt (blockOf k bytes) 508 ≡ checkOf (blockOf k bytes)
+  block-check : Within 255 bytes → fourAt (blockOf k bytes) 508 ≡ checkOf (blockOf k bytes)
   unfolding blockOf sealed
   block-check b =
       let front = four k ++ filled bytes in
@@ -81,27 +82,27 @@ module _ (k : ℕ) (bytes : List ℕ) where
       ∙ four-read check [] small
       ∙ sym (check-front front (four check) (length-front k bytes))
 
-  block-filling : (size : ℕ) → length bytes ≤ size → zeros (drop size (filled bytes)) ≡ true
+  block-filling : (size : ℕ) → length bytes ≤ size → allZero (drop size (filled bytes)) ≡ true
   unfolding filled
-  block-filling size l = zeros-behind size (take 504 bytes) (504 - length bytes) (simp length-take (omega arith))
+  block-filling size l = all-zero-behind size (take 504 bytes) (504 - length bytes) (simp length-take (omega arith))
 
-  pub block-passes : (size : ℕ) → k < 4294967296 → Bytes bytes → length bytes ≤ size → Passes (blockTests k size (blockOf k bytes))
+  pub block-passes : (size : ℕ) → k < 4294967296 → Within 255 bytes → length bytes ≤ size → Passes (blockTests k size (blockOf k bytes))
   unfolding blockTests
   block-passes size h b l =
       both
       (both (sound (agrees refl refl (block-number h))) (sound (agrees refl refl (block-check b))))
-      (sound (ap (λ x. not (zeros (drop size x))) block-contents ∙ ap not (block-filling size l)))
+      (sound (ap (λ x. not (allZero (drop size x))) block-contents ∙ ap not (block-filling size l)))
 
 -- bytes whose rest is zero are their front, filled up
-filled-front : (l : List ℕ) (size : ℕ) → length l ≡ 504 → zeros (drop size l) ≡ true → l ≡ filled (take size l)
+filled-front : (l : List ℕ) (size : ℕ) → length l ≡ 504 → allZero (drop size l) ≡ true → l ≡ filled (take size l)
 unfolding filled
 filled-front l size e z =
     let short : length (take size l) ≤ 504 = simp length-take (omega arith) in
     let rest : length (drop size l) ≡ 504 - length (take size l) = simp (length-drop, length-take) (omega arith) in
-    sym (take-append-drop size l) ∙ rw (take-all 504 (take size l) short, ← rest, ← zeros-replicate (drop size l) z)
+    sym (take-append-drop size l) ∙ rw (take-all 504 (take size l) short, ← rest, ← all-zero-replicate (drop size l) z)
 
 -- a block that passes is the block that is laid down
-pub block-is : (k size : ℕ) (block : List ℕ) → length block ≡ 512 → Bytes block → Passes (blockTests k size block) → block ≡ blockOf k (take size (contents block))
+pub block-is : (k size : ℕ) (block : List ℕ) → length block ≡ 512 → Within 255 block → Passes (blockTests k size block) → block ≡ blockOf k (take size (contents block))
 unfolding blockTests blockOf sealed contents
 block-is k size block l b p =
     let number : fourAt block 0 ≡ k = same _ _ (passes-first (passes-first p)) in

@@ -40,13 +40,13 @@ unfoldable pub contents : List ℕ → List ℕ
 contents block = take 504 (drop 4 block)
 
 -- Every one of some bytes is zero.
-unfoldable pub zeros : List ℕ → Bool
-zeros [] = true
-zeros (byte ∷ bytes) = cond (eqb byte 0) (zeros bytes) false
+unfoldable pub allZero : List ℕ → Bool
+allZero [] = true
+allZero (byte ∷ bytes) = cond (eqb byte 0) (allZero bytes) false
 
 -- "14: wrong block number or check", "15: .. filling not as laid down", of block k if it is to hold so many bytes before the filling.
 unfoldable pub blockTests : ℕ → ℕ → List ℕ → Tests
 blockTests k size block =
     Check when not (eqb (fourAt block 0) k) andThen
     Check when not (eqb (fourAt block 508) (checkOf block)) andThen
-    Layout when not (zeros (drop size (contents block)))
+    Layout when not (allZero (drop size (contents block)))

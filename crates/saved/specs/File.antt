@@ -7,20 +7,20 @@ use lib.ListN.{length, getD, take, drop}
 use Rattle.scope.specs.declared.Run.{Run}
 use Rattle.scope.specs.Run.{cellsOf}
 use Rattle.scope.specs.Refusal.{Tests, _when_, _andThen_, nothing, runTests, Room, Blocks, Layout}
-use Rattle.saved.specs.Block.{four, fourAt, blockOf, contents, zeros, blockTests}
+use Rattle.saved.specs.Block.{four, fourAt, blockOf, contents, allZero, blockTests}
 
 -- "Block 0: byte 4 = 1 (version), 5-7 zero, then four 32-bit numbers at 8, 12, 16, 20: window, interval, first line, last line".
 unfoldable pub heading : Run → List ℕ
 heading run = 1 ∷ 0 ∷ 0 ∷ 0 ∷ four (run .window) ++ four (run .interval) ++ four (run .first) ++ four (run .last)
 
 -- The first n of a row of lists, joined.
-unfoldable pub joined : (ℕ → List ℕ) → ℕ → List ℕ
-joined lists zero = []
-joined lists (suc k) = joined lists k ++ lists k
+unfoldable pub firstJoined : (ℕ → List ℕ) → ℕ → List ℕ
+firstJoined lists zero = []
+firstJoined lists (suc k) = firstJoined lists k ++ lists k
 
 -- "Later blocks: 504 cells each .. in cell order", one byte a cell: blocks 1 to n.
 unfoldable pub cellBlocks : List ℕ → ℕ → List ℕ
-cellBlocks cells = joined λ k. blockOf (suc k) (drop (504 * k) cells)
+cellBlocks cells = firstJoined λ k. blockOf (suc k) (drop (504 * k) cells)
 
 -- How many of these so many bytes of cells need: one for each 504 begun.
 unfoldable pub blocksFor : ℕ → ℕ
@@ -44,15 +44,15 @@ runOf file = record { window = fourAt file 8; interval = fourAt file 12; first =
 
 -- What blocks 1 to n of a file hold.
 unfoldable pub bytesIn : List ℕ → ℕ → List ℕ
-bytesIn file = joined λ k. contents (blockAt file (suc k))
+bytesIn file = firstJoined λ k. contents (blockAt file (suc k))
 
 -- The map that a file tells: the cells of its run.
 unfoldable pub mapOf : List ℕ → List ℕ
 mapOf file = let cells = cellsOf (runOf file) in take cells (bytesIn file (blocksFor cells))
 
 -- "Saving: 1, 2, 3, 9". "9: .. map or file room not of the exact length".
-unfoldable pub saveTests : Run → List ℕ → List ℕ → Tests
-saveTests run map file =
+unfoldable pub savingTests : Run → List ℕ → List ℕ → Tests
+savingTests run map file =
     runTests run andThen
     Room when not (eqb (length map) (cellsOf run)) andThen
     Room when not (eqb (length file) (fileLength (cellsOf run)))
@@ -62,12 +62,12 @@ unfoldable pub headingTests : List ℕ → Tests
 headingTests block =
     blockTests 0 20 block andThen
     Layout when not (eqb (getD block 4 0) 1) andThen
-    Layout when not (zeros (take 3 (drop 5 block)))
+    Layout when not (allZero (take 3 (drop 5 block)))
 
 -- "the other blocks in order, 14 before 15 in each": blocks 1 to n of a file with so many bytes of cells.
-unfoldable pub mapTests : ℕ → List ℕ → ℕ → Tests
-mapTests size file zero = nothing
-mapTests size file (suc k) = mapTests size file k andThen blockTests (suc k) (size - 504 * k) (blockAt file (suc k))
+unfoldable pub cellBlocksTests : ℕ → List ℕ → ℕ → Tests
+cellBlocksTests size file zero = nothing
+cellBlocksTests size file (suc k) = cellBlocksTests size file k andThen blockTests (suc k) (size - 504 * k) (blockAt file (suc k))
 
 -- "Reading: 13 for whole blocks, then block 0 for 14 and 15, then 1, 2, 3, 13 for the count, then the other blocks".
 unfoldable pub fileTests : List ℕ → Tests
@@ -79,10 +79,10 @@ fileTests file =
     headingTests (blockAt file 0) andThen
     runTests run andThen
     Blocks when not (eqb (length file) (fileLength cells)) andThen
-    mapTests cells file (blocksFor cells)
+    cellBlocksTests cells file (blocksFor cells)
 
 -- "then 9".
-unfoldable pub readTests : List ℕ → List ℕ → Tests
-readTests file map =
+unfoldable pub readingTests : List ℕ → List ℕ → Tests
+readingTests file map =
     fileTests file andThen
     Room when not (eqb (length map) (cellsOf (runOf file)))

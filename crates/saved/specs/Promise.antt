@@ -9,24 +9,24 @@ use Rattle.saved.specs.declared.Saved.{Saved}
 use Rattle.saved.specs.declared.Saved.the-variants.{Done, Refused as Refused·saved}
 use Rattle.saved.specs.declared.Loaded.{Loaded}
 use Rattle.saved.specs.declared.Loaded.the-variants.{Of, Refused as Refused·loaded}
-use Rattle.saved.specs.File.{fileOf, runOf, mapOf, saveTests, readTests}
+use Rattle.saved.specs.File.{fileOf, runOf, mapOf, savingTests, readingTests}
 
 -- What a reply to saving says: that it is done, or a refusal's number.
-abbrev pub saidOfSaving : Saved → Said (Unit {0})
-saidOfSaving Done = answered tt
-saidOfSaving (Refused·saved n) = refused n
+abbrev pub saysSaving : Saved → Said (Unit {0})
+saysSaving Done = answered tt
+saysSaving (Refused·saved n) = refused n
 
 -- What a reply to reading says: the run, or a refusal's number.
-abbrev pub saidOfReading : Loaded → Said Run
-saidOfReading (Of run) = answered run
-saidOfReading (Refused·loaded n) = refused n
+abbrev pub saysReading : Loaded → Said Run
+saysReading (Of run) = answered run
+saysReading (Refused·loaded n) = refused n
 
 -- Saving: a run and its map are stored in the file room, or it is refused and the room is as it was.
-pub record SavePromise (run : Run) (map file : List ℕ) (answer : Saved) (after : List ℕ) : Type 0 where
-  pub says : saidOfSaving answer ≡ reply (complaint (saveTests run map file)) tt
-  pub stores : after ≡ stored (complaint (saveTests run map file)) file (fileOf run map)
+pub record SavingPromise (run : Run) (map file : List ℕ) (answer : Saved) (after : List ℕ) : Type 0 where
+  pub says : saysSaving answer ≡ reply (complaint (savingTests run map file)) tt
+  pub stores : after ≡ stored (complaint (savingTests run map file)) file (fileOf run map)
 
 -- "Reading answers with the run and fills a lent map", or it is refused and the map is as it was.
-pub record ReadPromise (file map : List ℕ) (answer : Loaded) (after : List ℕ) : Type 0 where
-  pub says : saidOfReading answer ≡ reply (complaint (readTests file map)) (runOf file)
-  pub stores : after ≡ stored (complaint (readTests file map)) map (mapOf file)
+pub record ReadingPromise (file map : List ℕ) (answer : Loaded) (after : List ℕ) : Type 0 where
+  pub says : saysReading answer ≡ reply (complaint (readingTests file map)) (runOf file)
+  pub stores : after ≡ stored (complaint (readingTests file map)) map (mapOf file)

@@ -7,9 +7,9 @@ ghost use Prim.Native.Nat.{min, _+_, _*_, _≤_, _<_, _^_};
 ghost use lib.ListN.{length, take, drop, replicate};
 ghost use Rattle.scope.specs.Refusal.{complaint};
 ghost use Rattle.scope.specs.Reply.{verdict, reply};
-ghost use Rattle.saved.specs.Block.{four, fourAt, checkOf, blockOf, zeros, blockTests};
-ghost use Rattle.saved.specs.File.{heading, cellBlocks, blocksFor, fileLength, runOf, bytesIn, headingTests, mapTests, fileTests};
-ghost use Rattle.saved.specs.Promise.{saidOfReading, SavePromise, ReadPromise};
+ghost use Rattle.saved.specs.Block.{four, fourAt, checkOf, blockOf, allZero, blockTests};
+ghost use Rattle.saved.specs.File.{heading, cellBlocks, blocksFor, fileLength, runOf, bytesIn, headingTests, cellBlocksTests, fileTests};
+ghost use Rattle.saved.specs.Promise.{saysReading, SavingPromise, ReadingPromise};
 
 // What saving a map came to.
 pub enum Saved {
@@ -96,7 +96,7 @@ pub fn clear(room: &mut [u8])
 
 // Inner step. Whether every byte from `from` on is zero; of no bytes that is so.
 pub fn zeros_from(bytes: &[u8], from: usize) -> bool
-    ensures { λ r. ⌜ r ≡ zeros (drop from (now (bytes .entry))) ⌝ }
+    ensures { λ r. ⌜ r ≡ allZero (drop from (now (bytes .entry))) ⌝ }
 {
     let mut i = from;
     while i < bytes.len() {
@@ -140,7 +140,7 @@ pub fn judge_block(number: u32, size: usize, block: &[u8]) -> Verdict
     Verdict::Fine
 }
 
-// Inner step. The smaller of two numbers.
+// The smaller of two numbers.
 fn least(a: usize, b: usize) -> usize
     ensures { λ r. ⌜ r ≡ min a b ⌝ }
 {
@@ -189,7 +189,7 @@ pub fn write_cells(map: &[u8], room: &mut [u8])
 // Refused, in this order: 1, 2, 3 for the run, 9 for a map or a room not of the exact length. Every test comes before the first
 // byte is written, and then every byte is.
 pub fn save(run: Run, map: &[u8], file: &mut [u8]) -> Saved
-    ensures { λ r. ⌜ SavePromise run (now (map .entry)) (now (file .entry)) r (now (file .exit)) ⌝ }
+    ensures { λ r. ⌜ SavingPromise run (now (map .entry)) (now (file .entry)) r (now (file .exit)) ⌝ }
 {
     if let Verdict::Refused(number) = scope::judge_run(run) {
         return Saved::Refused(number);
@@ -227,7 +227,7 @@ pub fn judge_heading(block: &[u8]) -> Verdict
 // Inner step. What 01's table says of the blocks after block 0, in order, if they are to hold `size` bytes of cells.
 pub fn judge_cells(size: usize, file: &[u8]) -> Verdict
     requires { ⌜ (size < 2 ^ 37) × (length (now file) ≡ fileLength size) ⌝ }
-    ensures { λ r. ⌜ r ≡ verdict (complaint (mapTests size (now (file .entry)) (blocksFor size))) ⌝ }
+    ensures { λ r. ⌜ r ≡ verdict (complaint (cellBlocksTests size (now (file .entry)) (blocksFor size))) ⌝ }
 {
     let mut k: usize = 0;
     while 504 * k < size {
@@ -261,7 +261,7 @@ pub fn run_of(file: &[u8]) -> Run
 // Inner step. What 01's table says of a file: its run, or the number of the first test that it fails. Only a count of blocks that fits
 // the run makes sure that each block is there to be judged.
 pub fn judge_file(file: &[u8]) -> Loaded
-    ensures { λ r. ⌜ saidOfReading r ≡ reply (complaint (fileTests (now (file .entry)))) (runOf (now (file .entry))) ⌝ }
+    ensures { λ r. ⌜ saysReading r ≡ reply (complaint (fileTests (now (file .entry)))) (runOf (now (file .entry))) ⌝ }
 {
     if file.len() % 512 != 0 {
         return Loaded::Refused(13);
@@ -306,7 +306,7 @@ pub fn load(file: &[u8], map: &mut [u8])
 // Refused, in this order: 13 for whole blocks, 14 and 15 for block 0, 1, 2, 3 for its run, 13 for the count, 14 and 15 for each
 // other block, 9 for the map's length. Every test, of the last block too, comes before the first cell is filled.
 pub fn read(file: &[u8], map: &mut [u8]) -> Loaded
-    ensures { λ r. ⌜ ReadPromise (now (file .entry)) (now (map .entry)) r (now (map .exit)) ⌝ }
+    ensures { λ r. ⌜ ReadingPromise (now (file .entry)) (now (map .entry)) r (now (map .exit)) ⌝ }
 {
     match judge_file(file) {
         Loaded::Refused(number) => Loaded::Refused(number),

@@ -11,7 +11,7 @@ use lib.IntN.{ℤ, pos, negℤ, _+ℤ_, _-ℤ_, _*ℤ_}
 use lib.Signed.{_<ℤ_}
 use Rattle.signed.proofs.Parts.{up, parts, apart, sum, neg-up, neg-dn}
 use Rattle.scope.specs.declared.Run.{Run}
-use Rattle.scope.specs.Run.{Valid, linesOf, cellsOf, cellOf, lineOf, offsetOf, shiftOf}
+use Rattle.scope.specs.Run.{Valid, linesOf, cellsOf, cellOf, lineOf, offsetOf, Before, shiftOf}
 pub use Rattle.scope.specs.Run.{InRun, IsBlock}
 use Rattle.scope.proofs.Limits.{halves}
 
@@ -128,10 +128,7 @@ offset-order run x y =
     let half = pos (run .window / 2) in
     omega (arith, parts, offset-distance run x, offset-distance run y, sum (offsetOf run x) half, sum (offsetOf run y) half)
 
--- "rising x is line order, then offset order"
-abbrev pub Before : Run → ℕ → ℕ → Type 0
-Before run x y = (lineOf run x < lineOf run y) ⊎ ((lineOf run x ≡ lineOf run y) × (offsetOf run x <ℤ offsetOf run y))
-
+-- "Rising x is line order, then offset order."
 pub cell-order : {run : Run} → Valid run → (x y : ℕ) → (x < y) ↔ Before run x y
 unfolding lineOf
 cell-order {run} v x y = (λ l. to (decide .0 l), λ b. decide .1 (from b))

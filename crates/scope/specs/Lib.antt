@@ -1,5 +1,4 @@
 pub mod Run
 pub mod Hit
 pub mod Refusal
-pub mod Entry
 pub mod Reply

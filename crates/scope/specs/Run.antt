@@ -1,8 +1,11 @@
 -- Document 01, "The measurement in numbers": a run, its lines and its cells.
-use Prim.Native.Nat.{ℕ, suc, _+_, _-_, _*_, _/_, _%_, _≤_}
+use Prim.Native.Nat.{ℕ, suc, _+_, _-_, _*_, _/_, _%_, _≤_, _<_}
 use mathlib.Core.Path.{_≡_}
+use mathlib.Core.Logic.{_⊎_}
+use mathlib.Core.List.{List}
 use lib.IntN.{ℤ, pos, negℤ, _+ℤ_, _-ℤ_, _*ℤ_}
 use lib.Signed.{_≤ℤ_, _<ℤ_}
+use lib.ListN.{getD}
 use Rattle.scope.specs.declared.Run.{Run}
 use Rattle.scope.specs.declared.Source.{Source}
 
@@ -21,6 +24,10 @@ pub record Valid (run : Run) : Type 0 where
 pub record ValidSource (source : Source) : Type 0 where
   pub ticks : 1 ≤ source .period
   pub fits : source .period ≤ 2147483647
+
+-- The same table: "map cell: one byte". No number of the list is above the ceiling; of bytes that is 255.
+abbrev pub Within : ℕ → List ℕ → Type 0
+Within ceiling numbers = (k : ℕ) → getD numbers k 0 ≤ ceiling
 
 -- "a first line and a last line": both belong to the run.
 unfoldable pub linesOf : Run → ℕ
@@ -48,6 +55,10 @@ lineOf run x = run .first + x / run .window
 -- The offset of the cell with number x.
 unfoldable pub offsetOf : Run → ℕ → ℤ
 offsetOf run x = pos (x % run .window) -ℤ pos (run .window / 2)
+
+-- "Rising x is line order, then offset order": cell x comes before cell y, by line and then by offset.
+abbrev pub Before : Run → ℕ → ℕ → Type 0
+Before run x y = (lineOf run x < lineOf run y) ⊎ ((lineOf run x ≡ lineOf run y) × (offsetOf run x <ℤ offsetOf run y))
 
 -- "A block is a run with the same window and interval and a part of the lines."
 pub record IsBlock (run block : Run) : Type 0 where

@@ -1,7 +1,7 @@
 // Runs, cells, sources and their limits: document 01's words as types, and the tests that every call begins with.
 // Every function is proved. No function here is a public operation: each is an inner step of the crates above.
 ghost use mathlib.Core.Path.{_≡_};
-ghost use Prim.Native.Nat.{_+_, _-_, _≤_};
+ghost use Prim.Native.Nat.{_+_, _≤_};
 ghost use Rattle.scope.specs.Run.{Valid, IsBlock, cellsOf, shiftOf};
 ghost use Rattle.scope.specs.Refusal.{complaint, windowTests, lineTests, runTests, periodTests, sourceTests};
 ghost use Rattle.scope.specs.Reply.{verdict};
@@ -124,15 +124,5 @@ impl BlockCell {
         ensures { λ r. ⌜ r .0 ≡ self .0 + shiftOf run block ⌝ }
     {
         RunCell(self.0 + block_shift(run, block))
-    }
-}
-
-impl RunCell {
-    // Inner step. The number that a cell of the run has in a block that does not start after it: the block's shift is taken away.
-    pub fn in_block(self, run: Run, block: Run) -> BlockCell
-        requires { ⌜ Valid run × IsBlock run block × Valid block × shiftOf run block ≤ self .0 ⌝ }
-        ensures { λ r. ⌜ r .0 ≡ self .0 - shiftOf run block ⌝ }
-    {
-        BlockCell(self.0 - block_shift(run, block))
     }
 }

@@ -9,7 +9,7 @@ use borrow.Author.Tests.{ltb-false, eqb-false, ne-eqb, le-ltb}
 use Rattle.scope.specs.Refusal.{sourceTests, weightTests}
 use Rattle.scope.proofs.Judged.{Passes, sound, both, source-passes, no-tests}
 use Rattle.scope.proofs.Limits.{passes-when, passes-first, passes-then, passes-source, valid-source, valid-source-passes}
-use Rattle.scope.specs.Entry.{Entry, entriesOf, entryTests, listTests}
+use Rattle.sources.specs.Entry.{Entry, entriesOf, entryTests, listTests}
 use Rattle.sources.specs.Lists.{periodsOf, weightsOf, AllValid}
 
 -- the entry of a period and a weight

@@ -2,7 +2,7 @@
 use Prim.Native.Nat.{ℕ, _≤_}
 use mathlib.Core.List.{List, [], _∷_}
 use Rattle.scope.specs.Run.{ValidSource}
-use Rattle.scope.specs.Entry.{Entry}
+use Rattle.sources.specs.Entry.{Entry}
 
 -- The list of periods of some entries.
 unfoldable pub periodsOf : List Entry → List ℕ

@@ -3,7 +3,7 @@
 use scope::Verdict;
 ghost use mathlib.Core.Path.{_≡_};
 ghost use lib.ListN.{length};
-ghost use Rattle.scope.specs.Entry.{entriesOf, listTests};
+ghost use Rattle.sources.specs.Entry.{entriesOf, listTests};
 ghost use Rattle.scope.specs.Refusal.{complaint};
 ghost use Rattle.scope.specs.Reply.{verdict};
 

@@ -9,12 +9,12 @@ use lib.Seq.{take-at}
 use Rattle.scope.specs.declared.Run.{Run}
 use Rattle.scope.specs.Refusal.{number}
 use Rattle.scope.proofs.Judged.{Fails, Passes, refuse-reply, grant-reply, refuse-stored, grant-stored}
-use Rattle.scope.specs.Entry.{Entry, entriesOf}
+use Rattle.sources.specs.Entry.{Entry, entriesOf}
 use Rattle.sources.specs.Lists.{periodsOf, weightsOf}
 use Rattle.sources.proofs.Entries.{entries-of, periods-length, weights-length}
-use Rattle.text.specs.Form.{runWord, runNumbers, srcLines, textOf, Content, Says}
+use Rattle.text.specs.Form.{runWord, runNumbers, srcLines, textOf, Content, Spells}
 use Rattle.text.specs.Promise.{Reads, textTests, handed, padded, refusal, TextPromise}
-use Rattle.text.specs.Inner.{Line, NoLine, Lines, Listed, NoLines}
+use Rattle.text.specs.Inner.{Line, NoLine, Lines, LinesListed, NoLines}
 use Rattle.text.specs.declared.Input.{Input}
 use Rattle.text.specs.declared.Answer.the-variants.{Read}
 use Rattle.text.proofs.Lines.{line-split}
@@ -35,7 +35,7 @@ module _ {text : List ℕ} {run : Run} {at : ℕ} (l : Line text 0 runWord (runN
       n .none (content .entries)
       (record { small = s .allSmall; is = line-split runWord (runNumbers run) (runNumbers (content .run)) (drop at text) (srcLines (content .entries)) (sym (l .stands .is) ∙ s .spelled) .1 })
 
-  pub has-form : {entries : List Entry} → length text ≤ 4096 → Lines text at entries → Says text (record { run = run; entries = entries })
+  pub has-form : {entries : List Entry} → length text ≤ 4096 → Lines text at entries → Spells text (record { run = run; entries = entries })
   unfolding textOf
   has-form h m =
       record { spelled = l .stands .is ∙ rw (m .is); runSmall = l .small; allSmall = m .small; short = h }
@@ -45,9 +45,9 @@ module _ {text : List ℕ} {run : Run} {at : ℕ} (l : Line text 0 runWord (runN
 pub refuses-form : {text : List ℕ} {input : Input} → Reads text none → input ≡ refusal 11 → TextPromise text input
 unfolding padded periodsOf weightsOf number
 refuses-form n e =
-    record { content = none; reads = n; replies = rw e; counts = rw e; periods = rw e; weights = rw e }
+    record { content = none; reads = n; says = rw e; counts = rw e; periods = rw e; weights = rw e }
 
-pub refuses : {text : List ℕ} {content : Content} {n : ℕ} {input : Input} → Says text content → Fails (textTests content) n
+pub refuses : {text : List ℕ} {content : Content} {n : ℕ} {input : Input} → Spells text content → Fails (textTests content) n
     → input ≡ refusal n → TextPromise text input
 unfolding padded periodsOf weightsOf
 refuses {content = content} s f e =
@@ -55,7 +55,7 @@ refuses {content = content} s f e =
     record {
       content = some content;
       reads = s;
-      replies = rw e (refuse-reply (content .run) f);
+      says = rw e (refuse-reply (content .run) f);
       counts = rw (e, empty);
       periods = rw (e, empty);
       weights = rw (e, empty);
@@ -71,23 +71,23 @@ padded-is : (numbers : List ℕ) (count : ℕ) → length numbers ≡ count → 
 unfolding padded
 padded-is numbers count l h = ap (λ rest. numbers ++ rest) (drop-zeros count 64 ∙ ap (λ k. replicate (64 - k) 0) (sym l))
 
-pub accepts : {text : List ℕ} {run : Run} {at count : ℕ} {periods weights : List ℕ} (g : Listed text at count (replicate 64 0) (replicate 64 0) periods weights)
+pub accepts : {text : List ℕ} {run : Run} {at count : ℕ} {periods weights : List ℕ} (g : LinesListed text at count (replicate 64 0) (replicate 64 0) periods weights)
     → count ≤ 64
-    → Says text (record { run = run; entries = g .entries }) → Passes (textTests (record { run = run; entries = g .entries }))
+    → Spells text (record { run = run; entries = g .entries }) → Passes (textTests (record { run = run; entries = g .entries }))
     → TextPromise text (record { answer = Read run; count = count; periods = periods; weights = weights })
 accepts {run = run} {count = count} g h s p =
     let all = grant-stored [] (g .entries) p in
     record {
       content = some (record { run = run; entries = g .entries });
       reads = s;
-      replies = grant-reply run p;
+      says = grant-reply run p;
       counts = sym (g .counted) ∙ ap length all;
       periods = g .storesPeriods h ∙ padded-is (periodsOf (g .entries)) count (periods-length (g .entries) ∙ g .counted) h ∙ ap (λ es. padded (periodsOf es)) all;
       weights = g .storesWeights h ∙ padded-is (weightsOf (g .entries)) count (weights-length (g .entries) ∙ g .counted) h ∙ ap (λ es. padded (weightsOf es)) all;
     }
 
 -- the parts of the lists that are judged are the entries
-pub entries-stored : {text : List ℕ} {at count : ℕ} {periods weights : List ℕ} (g : Listed text at count (replicate 64 0) (replicate 64 0) periods weights)
+pub entries-stored : {text : List ℕ} {at count : ℕ} {periods weights : List ℕ} (g : LinesListed text at count (replicate 64 0) (replicate 64 0) periods weights)
     → count ≤ 64 → entriesOf (take count periods) (take count weights) ≡ g .entries
 entries-stored {count = count} {periods = periods} {weights = weights} g h =
     let p : take count periods ≡ periodsOf (g .entries) =

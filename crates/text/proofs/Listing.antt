@@ -7,11 +7,11 @@ use mathlib.Core.Path.{_≡_, refl, sym, ap, _∙_}
 use mathlib.Core.List.{List, [], _∷_, _++_, append-assoc, append-nil}
 use lib.ListN.{length, drop, getD, set, length-append, length-drop, length-set, drop-of-length-le}
 use lib.Seq.{drop-cons, set-at}
-use Rattle.scope.specs.Entry.{Entry}
+use Rattle.sources.specs.Entry.{Entry}
 use Rattle.sources.specs.Lists.{periodsOf, weightsOf}
 use Rattle.sources.proofs.Entries.{entry, periods-length, weights-length, periods-append, weights-append}
 use Rattle.text.specs.Form.{line, srcWord, srcNumbers, srcLines}
-use Rattle.text.specs.Inner.{Line, NoLine, Lines, Listed, NoLines}
+use Rattle.text.specs.Inner.{Line, NoLine, Lines, LinesListed, NoLines}
 use Rattle.text.proofs.Lines.{spelled-within, line-split}
 
 -- `count` lines are passed up to `next`: lines that follow join them, and where none can follow, none stand at `at`
@@ -106,7 +106,7 @@ module _ {text : List ℕ} {at : ℕ} {periods weights periods′ weights′ : L
         storesWeights = λ h. w ∙ rw (g .storesWeights (omega arith), weights-append) (store-next (weightsOf (g .entries)) weights count weight (weights-length (g .entries) ∙ g .counted) (omega arith));
       }
 
-  pub listing-ends : length text ≤ next → Listed text at count periods weights periods′ weights′
+  pub listing-ends : length text ≤ next → LinesListed text at count periods weights periods′ weights′
   unfolding srcLines
   listing-ends h =
       record {

@@ -12,11 +12,11 @@ use Rattle.scope.specs.declared.Run.{Run}
 use Rattle.scope.specs.Refusal.{Complaint, Tests, _when_, _andThen_, ofSource, nothing, orElse, placed, complaint, number, windowTests, lineTests, runTests, periodTests, weightTests}
 use Rattle.scope.specs.Reply.{refused, answered, reply, stored}
 use Rattle.scope.proofs.Judged.{Passes, grant-reply, grant-stored}
-use Rattle.scope.specs.Entry.{Entry, entriesOf, entryTests, listTests}
+use Rattle.sources.specs.Entry.{Entry, entriesOf, entryTests, listTests}
 use Rattle.sources.specs.Lists.{periodsOf, weightsOf}
 use Rattle.sources.proofs.Entries.{entry, entries-of, periods-length, weights-length}
-use Rattle.text.specs.Form.{line, runWord, srcWord, runNumbers, srcNumbers, srcLines, textOf, Content, Says}
-use Rattle.text.specs.Promise.{Reads, textTests, replyTo, handed, padded, says, TextPromise}
+use Rattle.text.specs.Form.{line, runWord, srcWord, runNumbers, srcNumbers, srcLines, textOf, Content, Spells}
+use Rattle.text.specs.Promise.{Reads, textTests, replyTo, handed, padded, saysText, TextPromise, sourcesOf}
 use Rattle.text.specs.declared.Answer.{Answer}
 use Rattle.text.specs.declared.Answer.the-variants.{Read, Refused}
 use Rattle.text.specs.declared.Input.{Input}
@@ -49,26 +49,26 @@ text-injective a b e =
 
 -- ---- so is the reading of a text
 
-pub says-unique : {text : List ℕ} {a b : Content} → Says text a → Says text b → a ≡ b
-says-unique {a = a} {b = b} s t = text-injective a b (sym (s .spelled) ∙ t .spelled)
+pub spells-unique : {text : List ℕ} {a b : Content} → Spells text a → Spells text b → a ≡ b
+spells-unique {a = a} {b = b} s t = text-injective a b (sym (s .spelled) ∙ t .spelled)
 
 pub reads-unique : (text : List ℕ) (a b : Option Content) → Reads text a → Reads text b → a ≡ b
 reads-unique text none none r s = refl
 reads-unique text none (some b) r s = absurd (r b s)
 reads-unique text (some a) none r s = absurd (s a r)
-reads-unique text (some a) (some b) r s = ap some (says-unique r s)
+reads-unique text (some a) (some b) r s = ap some (spells-unique r s)
 
-answer-same : (a b : Answer) → says a ≡ says b → a ≡ b
-answer-same (Read r) (Read s) e = cc
-answer-same (Read r) (Refused n) e = cc
-answer-same (Refused m) (Read s) e = cc
-answer-same (Refused m) (Refused n) e = cc
+says-text-injective : (a b : Answer) → saysText a ≡ saysText b → a ≡ b
+says-text-injective (Read r) (Read s) e = cc
+says-text-injective (Read r) (Refused n) e = cc
+says-text-injective (Refused m) (Read s) e = cc
+says-text-injective (Refused m) (Refused n) e = cc
 
 -- no second reply fits
 pub text-unique : (text : List ℕ) (i j : Input) → TextPromise text i → TextPromise text j → i ≡ j
 text-unique text i j p q =
     let e = reads-unique text (p .content) (q .content) (p .reads) (q .reads) in
-    let answers : i .answer ≡ j .answer = answer-same (i .answer) (j .answer) (p .replies ∙ rw e (sym (q .replies))) in
+    let answers : i .answer ≡ j .answer = says-text-injective (i .answer) (j .answer) (p .says ∙ rw e (sym (q .says))) in
     let counts : i .count ≡ j .count = p .counts ∙ rw e (sym (q .counts)) in
     let periods : i .periods ≡ j .periods = p .periods ∙ rw e (sym (q .periods)) in
     let weights : i .weights ≡ j .weights = p .weights ∙ rw e (sym (q .weights)) in
@@ -123,7 +123,7 @@ tests-apart content =
 
 pub refused-form : (text : List ℕ) (input : Input) → TextPromise text input → (input .answer ≡ Refused 11) ↔ Reads text none
 unfolding number
-refused-form text input p = (λ e. go (p .content) (p .reads) (sym (ap says e) ∙ p .replies), back)
+refused-form text input p = (λ e. go (p .content) (p .reads) (sym (ap saysText e) ∙ p .says), back)
   where
     other : (run : Run) (x : Option Complaint) → Other 11 x → refused 11 ≡ reply x run → ⊥
     other run none o e = let z : _≡_ {A = ℕ} 0 1 = cc in omega arith
@@ -134,13 +134,9 @@ refused-form text input p = (λ e. go (p .content) (p .reads) (sym (ap says e) �
     go (some d) r e = absurd (other (d .run) (complaint (textTests d)) (apart-other 11 (textTests d) (tests-apart d)) e)
 
     back : Reads text none → input .answer ≡ Refused 11
-    back n = answer-same (input .answer) (Refused 11) (p .replies ∙ ap replyTo (reads-unique text (p .content) none (p .reads) n))
+    back n = says-text-injective (input .answer) (Refused 11) (p .says ∙ ap replyTo (reads-unique text (p .content) none (p .reads) n))
 
 -- ---- accepted with a run and sources exactly if the text is their rendering and they pass the tests
-
--- the sources that a reply hands out
-abbrev pub sourcesOf : Input → List Entry
-sourcesOf input = entriesOf (take (input .count) (input .periods)) (take (input .count) (input .weights))
 
 pub sources-handed : (text : List ℕ) (input : Input) (p : TextPromise text input) → sourcesOf input ≡ handed (p .content)
 unfolding padded
@@ -153,24 +149,24 @@ sources-handed text input p =
     rw (front, beside) (entries-of es)
 
 pub accepted : (text : List ℕ) (input : Input) → TextPromise text input → (d : Content)
-    → ((input .answer ≡ Read (d .run)) × (sourcesOf input ≡ d .entries)) ↔ (Says text d × Passes (textTests d))
-accepted text input p d = (λ e. go (p .content) (p .reads) (sym (ap says (e .0)) ∙ p .replies) (sym (sources-handed text input p) ∙ e .1), back)
+    → ((input .answer ≡ Read (d .run)) × (sourcesOf input ≡ d .entries)) ↔ (Spells text d × Passes (textTests d))
+accepted text input p d = (λ e. go (p .content) (p .reads) (sym (ap saysText (e .0)) ∙ p .says) (sym (sources-handed text input p) ∙ e .1), back)
   where
-    judged : (d′ : Content) → Says text d′ → (x : Option Complaint) → complaint (textTests d′) ≡ x → answered (d .run) ≡ reply x (d′ .run)
-        → stored x [] (d′ .entries) ≡ d .entries → Says text d × Passes (textTests d)
+    judged : (d′ : Content) → Spells text d′ → (x : Option Complaint) → complaint (textTests d′) ≡ x → answered (d .run) ≡ reply x (d′ .run)
+        → stored x [] (d′ .entries) ≡ d .entries → Spells text d × Passes (textTests d)
     judged d′ s none c e h =
         let runs : d .run ≡ d′ .run = cc in
         let same : d′ ≡ d = λ k. record { run = sym runs k; entries = h k } in
-        subst (λ z. Says text z × Passes (textTests z)) same (s, record { is = c })
+        subst (λ z. Spells text z × Passes (textTests z)) same (s, record { is = c })
     judged d′ s (some b) c e h = absurd (let z : _≡_ {A = ℕ} 0 1 = cc in omega arith)
 
-    go : (o : Option Content) → Reads text o → answered (d .run) ≡ replyTo o → handed o ≡ d .entries → Says text d × Passes (textTests d)
+    go : (o : Option Content) → Reads text o → answered (d .run) ≡ replyTo o → handed o ≡ d .entries → Spells text d × Passes (textTests d)
     go none r e h = absurd (let z : _≡_ {A = ℕ} 0 1 = cc in omega arith)
     go (some d′) r e h = judged d′ r (complaint (textTests d′)) refl e h
 
-    back : Says text d × Passes (textTests d) → (input .answer ≡ Read (d .run)) × (sourcesOf input ≡ d .entries)
+    back : Spells text d × Passes (textTests d) → (input .answer ≡ Read (d .run)) × (sourcesOf input ≡ d .entries)
     back s =
         let e = reads-unique text (p .content) (some d) (p .reads) (s .0) in (
-          answer-same (input .answer) (Read (d .run)) (p .replies ∙ ap replyTo e ∙ sym (grant-reply (d .run) (s .1))),
+          says-text-injective (input .answer) (Read (d .run)) (p .says ∙ ap replyTo e ∙ sym (grant-reply (d .run) (s .1))),
           sources-handed text input p ∙ ap handed e ∙ sym (grant-stored [] (d .entries) (s .1)),
         )

@@ -5,7 +5,7 @@ use mathlib.Core.List.{List, [], _∷_, _++_}
 use lib.ListN.{length}
 use Rattle.decimal.specs.Digits.{digits}
 use Rattle.scope.specs.declared.Run.{Run}
-use Rattle.scope.specs.Entry.{Entry}
+use Rattle.sources.specs.Entry.{Entry}
 
 -- "Single spaces, decimal numbers .., a newline after each line": what follows the word that a line begins with.
 unfoldable pub fields : List ℕ → List ℕ
@@ -56,8 +56,8 @@ pub record Content : Type 0 where
 unfoldable pub textOf : Content → List ℕ
 textOf content = line runWord (runNumbers (content .run)) ++ srcLines (content .entries)
 
--- The text has 01's form, and this is what it says.
-pub record Says (text : List ℕ) (content : Content) : Type 0 where
+-- The text has 01's form, and spells out this run and these sources.
+pub record Spells (text : List ℕ) (content : Content) : Type 0 where
   pub spelled : text ≡ textOf content
   pub runSmall : Small (runNumbers (content .run))
   pub allSmall : AllSmall (content .entries)

@@ -7,7 +7,7 @@ use lib.ListN.{length, drop}
 use Rattle.decimal.specs.Digits.{digits, beginsWithDigit}
 use Rattle.decimal.specs.declared.Number.{Number}
 use Rattle.decimal.specs.declared.Number.the-variants.{Value, Bad}
-use Rattle.scope.specs.Entry.{Entry}
+use Rattle.sources.specs.Entry.{Entry}
 use Rattle.sources.specs.Lists.{periodsOf, weightsOf}
 use Rattle.text.specs.Form.{line, Small, runWord, srcWord, runNumbers, srcLines, AllSmall}
 use Rattle.text.specs.declared.Found.{Found}
@@ -78,7 +78,7 @@ pub record Lines (text : List ℕ) (at : ℕ) (entries : List Entry) : Type 0 wh
   pub is : drop at text ≡ srcLines entries
 
 -- From `at` on the text has so many `src` lines and nothing else; a list with room for them all begins with their numbers.
-pub record Listed (text : List ℕ) (at count : ℕ) (periods weights periods′ weights′ : List ℕ) : Type 0 where
+pub record LinesListed (text : List ℕ) (at count : ℕ) (periods weights periods′ weights′ : List ℕ) : Type 0 where
   pub entries : List Entry
   pub lines : Lines text at entries
   pub counted : length entries ≡ count
@@ -91,5 +91,5 @@ pub record NoLines (text : List ℕ) (at : ℕ) : Type 0 where
 
 -- `src` lines are looked for, up to the end.
 abbrev pub SourcesAt : List ℕ → ℕ → List ℕ → List ℕ → List ℕ → List ℕ → SourceLines → Type 0
-SourcesAt text at periods weights periods′ weights′ (Count count) = Listed text at count periods weights periods′ weights′
+SourcesAt text at periods weights periods′ weights′ (Count count) = LinesListed text at count periods weights periods′ weights′
 SourcesAt text at periods weights periods′ weights′ NoSources = NoLines text at

@@ -4,22 +4,22 @@ use mathlib.Core.Path.{_≡_}
 use mathlib.Core.List.{List, [], _++_}
 use mathlib.Core.Option.{Option, some, none}
 use lib.Dec.{ltb}
-use lib.ListN.{length, replicate}
+use lib.ListN.{length, take, replicate}
 use Rattle.scope.specs.declared.Run.{Run}
 use Rattle.scope.specs.Run.{cellsOf}
 use Rattle.scope.specs.Refusal.{Tests, _when_, _andThen_, TooMany, Text, complaint, number, runTests}
 use Rattle.scope.specs.Reply.{Said, refused, answered, reply, stored}
-use Rattle.scope.specs.Entry.{Entry, listTests}
+use Rattle.sources.specs.Entry.{Entry, entriesOf, listTests}
 use Rattle.sources.specs.Lists.{periodsOf, weightsOf}
-use Rattle.text.specs.Form.{Content, Says}
+use Rattle.text.specs.Form.{Content, Spells}
 use Rattle.text.specs.declared.Answer.{Answer}
 use Rattle.text.specs.declared.Input.{Input}
 use Rattle.text.specs.declared.Answer.the-variants.{Read, Refused}
 
 -- What a text says, or that it has not the form.
 abbrev pub Reads : List ℕ → Option Content → Type 0
-Reads text (some content) = Says text content
-Reads text none = (content : Content) → Says text content → ⊥
+Reads text (some content) = Spells text content
+Reads text none = (content : Content) → Spells text content → ⊥
 
 -- "Text: 11, 1, 2, 3, 12, then each source 4 before 7", after 11. "12: more than 64 sources, or a run of more than 65,536 cells".
 unfoldable pub textTests : Content → Tests
@@ -44,18 +44,22 @@ unfoldable pub padded : List ℕ → List ℕ
 padded numbers = numbers ++ replicate (64 - length numbers) 0
 
 -- 01's number and values for each case of the answer.
-abbrev pub says : Answer → Said Run
-says (Read run) = answered run
-says (Refused number) = refused number
+abbrev pub saysText : Answer → Said Run
+saysText (Read run) = answered run
+saysText (Refused number) = refused number
 
 -- The promise of reading a text: its reply, and the sources that go with it.
 pub record TextPromise (text : List ℕ) (input : Input) : Type 0 where
   pub content : Option Content
   pub reads : Reads text content
-  pub replies : says (input .answer) ≡ replyTo content
+  pub says : saysText (input .answer) ≡ replyTo content
   pub counts : input .count ≡ length (handed content)
   pub periods : input .periods ≡ padded (periodsOf (handed content))
   pub weights : input .weights ≡ padded (weightsOf (handed content))
+
+-- "`src period weight` lines, none or more": the sources that a reply hands out, as many as it counts.
+abbrev pub sourcesOf : Input → List Entry
+sourcesOf input = entriesOf (take (input .count) (input .periods)) (take (input .count) (input .weights))
 
 -- A refusal's number with no source.
 abbrev pub refusal : ℕ → Input

@@ -18,7 +18,7 @@ use Rattle.lattice.proofs.Pair.{extent}
 use Rattle.lattice.proofs.Span.{combined}
 use Rattle.lattice.proofs.Unique.{pair-steps}
 use Rattle.vectors.specs.declared.Vector.{Vector}
-use Rattle.vectors.specs.Vectors.{InLattice, IsPair}
+use Rattle.vectors.specs.Vectors.{InLattice, IsPair, Sum, Whole}
 use Rattle.vectors.proofs.Bridge.{magnitudes}
 
 -- a vector of the lattice leads from distance d to distance e, e - d being its offset
@@ -31,13 +31,6 @@ lies-go p r v d e h =
     let q = divides-apart p (d + r * v .line) e x y same in
     let c = cong-iff-mod p e (d + r * v .line) in
     (λ l. record { cong = c .1 (sym (q .0 l)) }, λ g. q .1 (sym (c .0 (g .cong))))
-
--- v is k times the vector that leads left and l times the one that leads right, neither less than 0 times
-pub record Sum (left right v : Vector) : Type 0 where
-  pub k : ℕ
-  pub l : ℕ
-  pub offset : v .offset ≡ (pos k *ℤ left .offset) +ℤ (pos l *ℤ right .offset)
-  pub line : v .line ≡ k * left .line + l * right .line
 
 signed-sum : (k l A C : ℕ) (i : ℤ) → up i + k * A ≡ dn i + l * C → i ≡ (pos k *ℤ negℤ (pos A)) +ℤ (pos l *ℤ pos C)
 signed-sum k l A C i e =
@@ -64,13 +57,6 @@ second-half {p} {r} {I} {left} {right} h v lies low high =
     let s = pair-steps (m .pair) (omega (arith, parts, apart i, neg-up (pos I), neg-dn (pos I))) (omega (arith, parts, apart i)) way in
     subst₂ (λ a b. Sum a b v) (sym (m .left-is)) (sym (m .right-is))
     (record { k = s .lefts; l = s .rights; offset = signed-sum (s .lefts) (s .rights) (m .A) (m .C) i (s .place); line = s .lines })
-
--- (i, j) is k times the one vector and l times the other, whole numbers of times
-pub record Whole (left right : Vector) (i j : ℤ) : Type 0 where
-  pub k : ℤ
-  pub l : ℤ
-  pub offset : i ≡ (k *ℤ left .offset) +ℤ (l *ℤ right .offset)
-  pub line : j ≡ (k *ℤ pos (left .line)) +ℤ (l *ℤ pos (right .line))
 
 whole-place : (k k′ l l′ A C : ℕ) {i : ℤ} → Is i → up i + k * A + l′ * C ≡ dn i + k′ * A + l * C → i ≡ (diff k k′ *ℤ negℤ (pos A)) +ℤ (diff l l′ *ℤ pos C)
 whole-place k k′ l l′ A C (of a b) e = simp differences (omega (arith, diff-parts a b))

@@ -5,9 +5,10 @@ use mathlib.Core.Logic.{_↔_, ⊎-elim}
 use mathlib.Core.Option.{Option, some, none}
 use native.Mathlib.Omega.{arith}
 use lib.IntN.{pos}
-use Rattle.lattice.proofs.Gcd.{IsGcd, gcd-unique}
+use Rattle.lattice.specs.Gcd.{IsGcd}
+use Rattle.lattice.proofs.Gcd.{gcd-unique}
 use Rattle.lattice.proofs.Pair.{Pair, SomePair, pair-iff, pair-gcd, reach, reached-cases}
-use Rattle.lattice.proofs.Unique.{pair-unique}
+use Rattle.lattice.proofs.Unique as Lattice
 use borrow.Author.Tests.{leb-false, ltb-false}
 use Rattle.scope.proofs.Judged.{Passes}
 use Rattle.scope.proofs.Limits.{passes-when, passes-first, passes-then, valid-window}
@@ -18,23 +19,17 @@ use Rattle.vectors.specs.declared.Basis.{Basis}
 use Rattle.vectors.specs.declared.Basis.the-variants.{Two, One}
 use Rattle.vectors.specs.declared.Steps.{Steps}
 use Rattle.vectors.specs.declared.Steps.the-variants as reply
-use Rattle.vectors.specs.Vectors.{IsPair, IsSingle}
-use Rattle.vectors.specs.Promise.{Spans, says, Admits, VectorsPromise, vectorsTests}
+use Rattle.vectors.specs.Vectors.{IsPair, APair, IsSingle}
+use Rattle.vectors.specs.Promise.{Spans, saysVectors, Admits, VectorsPromise, vectorsTests}
 use Rattle.vectors.proofs.Bridge.{leftward, rightward, magnitudes, from-magnitudes}
 
 -- "At most one such pair exists."
-pub one-pair : {p r I : ℕ} {l g l′ g′ : Vector} → IsPair p r I l g → IsPair p r I l′ g′ → (l ≡ l′) × (g ≡ g′)
-one-pair {p} {r} {I} {l} {g} {l′} {g′} h h′ =
+pub pair-unique : {p r I : ℕ} {l g l′ g′ : Vector} → IsPair p r I l g → IsPair p r I l′ g′ → (l ≡ l′) × (g ≡ g′)
+pair-unique {p} {r} {I} {l} {g} {l′} {g′} h h′ =
     let m = magnitudes h in
     let m′ = magnitudes h′ in
-    let e = pair-unique (m .pair) (m′ .pair) in
+    let e = Lattice.pair-unique (m .pair) (m′ .pair) in
     (m .left-is ∙ ap₂ leftward (e .0) (e .1) ∙ sym (m′ .left-is), m .right-is ∙ ap₂ rightward (e .2) (e .3) ∙ sym (m′ .right-is))
-
--- there is a pair
-pub record APair (p r I : ℕ) : Type 0 where
-  pub left : Vector
-  pub right : Vector
-  pub is-pair : IsPair p r I left right
 
 some-pair : {p r I : ℕ} → APair p r I ↔ SomePair p r I
 some-pair = (
@@ -54,8 +49,8 @@ no-pair-exactly-when low fits is =
     (λ h. let k : _ < _ → ⊥ = λ l. h (e .1 l) in omega (arith, k), λ h k. let l = e .0 k in omega arith)
 
 -- a single vector is one alone
-one-single : {p r I : ℕ} {v v′ : Vector} → IsSingle p r I v → IsSingle p r I v′ → v ≡ v′
-one-single {p} {r} {I} {v} {v′} h h′ =
+single-unique : {p r I : ℕ} {v v′ : Vector} → IsSingle p r I v → IsSingle p r I v′ → v ≡ v′
+single-unique {p} {r} {I} {v} {v′} h h′ =
     let e : v .offset ≡ v′ .offset = h .at-zero ∙ sym (h′ .at-zero) in
     let l : v .line ≡ v′ .line = h .rises ∙ ap (λ g. p / g) (gcd-unique (h .is-gcd) (h′ .is-gcd)) ∙ sym (h′ .rises) in
     λ i. record { offset = e i; line = l i }
@@ -67,57 +62,57 @@ never-both h s =
     let wide = s .wide in
     omega arith
 
-one-basis : (p r I : ℕ) (a b : Basis) → Spans p r I a → Spans p r I b → a ≡ b
-one-basis p r I (Two l g) (Two l′ g′) h h′ = let e = one-pair h h′ in ap₂ Two (e .0) (e .1)
-one-basis p r I (Two l g) (One v) h h′ = absurd (never-both h h′)
-one-basis p r I (One v) (Two l g) h h′ = absurd (never-both h′ h)
-one-basis p r I (One v) (One v′) h h′ = ap One (one-single h h′)
+basis-unique : (p r I : ℕ) (a b : Basis) → Spans p r I a → Spans p r I b → a ≡ b
+basis-unique p r I (Two l g) (Two l′ g′) h h′ = let e = pair-unique h h′ in ap₂ Two (e .0) (e .1)
+basis-unique p r I (Two l g) (One v) h h′ = absurd (never-both h h′)
+basis-unique p r I (One v) (Two l g) h h′ = absurd (never-both h′ h)
+basis-unique p r I (One v) (One v′) h h′ = ap One (single-unique h h′)
 
-one-said : (o : Option Complaint) (p r I : ℕ) (a b : Said Basis) → Admits o p r I a → Admits o p r I b → a ≡ b
-one-said (some c) p r I a b h h′ = h ∙ sym h′
-one-said none p r I (answered a) (answered b) h h′ = ap answered (one-basis p r I a b h h′)
-one-said none p r I (answered a) (refused n) h h′ = absurd h′
-one-said none p r I (refused n) (answered b) h h′ = absurd h
-one-said none p r I (refused n) (refused m) h h′ = absurd h
+said-unique : (o : Option Complaint) (p r I : ℕ) (a b : Said Basis) → Admits o p r I a → Admits o p r I b → a ≡ b
+said-unique (some c) p r I a b h h′ = h ∙ sym h′
+said-unique none p r I (answered a) (answered b) h h′ = ap answered (basis-unique p r I a b h h′)
+said-unique none p r I (answered a) (refused n) h h′ = absurd h′
+said-unique none p r I (refused n) (answered b) h h′ = absurd h
+said-unique none p r I (refused n) (refused m) h h′ = absurd h
 
 -- what is said is the reply
-says-injective : (a b : Steps) → says a ≡ says b → a ≡ b
-says-injective (reply.Pair l g) (reply.Pair l′ g′) e = cc
-says-injective (reply.Pair l g) (reply.Single v) e = cc
-says-injective (reply.Pair l g) (reply.Refused n) e = cc
-says-injective (reply.Single v) (reply.Pair l g) e = cc
-says-injective (reply.Single v) (reply.Single v′) e = cc
-says-injective (reply.Single v) (reply.Refused n) e = cc
-says-injective (reply.Refused n) (reply.Pair l g) e = cc
-says-injective (reply.Refused n) (reply.Single v) e = cc
-says-injective (reply.Refused n) (reply.Refused m) e = cc
+says-vectors-injective : (a b : Steps) → saysVectors a ≡ saysVectors b → a ≡ b
+says-vectors-injective (reply.Pair l g) (reply.Pair l′ g′) e = cc
+says-vectors-injective (reply.Pair l g) (reply.Single v) e = cc
+says-vectors-injective (reply.Pair l g) (reply.Refused n) e = cc
+says-vectors-injective (reply.Single v) (reply.Pair l g) e = cc
+says-vectors-injective (reply.Single v) (reply.Single v′) e = cc
+says-vectors-injective (reply.Single v) (reply.Refused n) e = cc
+says-vectors-injective (reply.Refused n) (reply.Pair l g) e = cc
+says-vectors-injective (reply.Refused n) (reply.Single v) e = cc
+says-vectors-injective (reply.Refused n) (reply.Refused m) e = cc
 
 -- No second reply fits, whatever the input.
 pub vectors-unique : (p r I : ℕ) (a b : Steps) → VectorsPromise p r I a → VectorsPromise p r I b → a ≡ b
 unfolding VectorsPromise
-vectors-unique p r I a b h h′ = says-injective a b (one-said (complaint (vectorsTests p r I)) p r I (says a) (says b) h h′)
+vectors-unique p r I a b h h′ = says-vectors-injective a b (said-unique (complaint (vectorsTests p r I)) p r I (saysVectors a) (saysVectors b) h h′)
 
 -- where there is no complaint some basis answers
-some-basis : (p r I : ℕ) → r < p → 1 ≤ I → I ≤ p → (basis : Basis) × Spans p r I basis
-some-basis p r I low narrow fits = ⊎-elim (λ h. let q = some-pair .1 h in (Two (q .left) (q .right), q .is-pair)) (λ h. alone h) (reached-cases (reach low narrow fits))
+basis-exists : (p r I : ℕ) → r < p → 1 ≤ I → I ≤ p → (basis : Basis) × Spans p r I basis
+basis-exists p r I low narrow fits = ⊎-elim (λ h. let q = some-pair .1 h in (Two (q .left) (q .right), q .is-pair)) (λ h. alone h) (reached-cases (reach low narrow fits))
   where
     alone : (g : ℕ) × IsGcd g r p × (I ≤ g) → (basis : Basis) × Spans p r I basis
     alone h = (One (record { offset = pos 0; line = p / h .0 }), record { g = h .0; is-gcd = h .1; wide = h .2; at-zero = refl; rises = refl })
 
 -- And one does.
-pub vectors-some : (p r I : ℕ) → (steps : Steps) × VectorsPromise p r I steps
+pub vectors-exists : (p r I : ℕ) → (steps : Steps) × VectorsPromise p r I steps
 unfolding VectorsPromise vectorsTests
-vectors-some p r I = go (complaint (vectorsTests p r I)) refl
+vectors-exists p r I = go (complaint (vectorsTests p r I)) refl
   where
-    said : (basis : Basis) × Spans p r I basis → (steps : Steps) × Admits none p r I (says steps)
+    said : (basis : Basis) × Spans p r I basis → (steps : Steps) × Admits none p r I (saysVectors steps)
     said (Two l g, h) = (reply.Pair l g, h)
     said (One v, h) = (reply.Single v, h)
 
-    go : (o : Option Complaint) → complaint (vectorsTests p r I) ≡ o → (steps : Steps) × Admits o p r I (says steps)
+    go : (o : Option Complaint) → complaint (vectorsTests p r I) ≡ o → (steps : Steps) × Admits o p r I (saysVectors steps)
     go (some c) e = (reply.Refused (number (c .reason)), refl)
     go none e =
         let passed : Passes (vectorsTests p r I) = record { is = e } in
         let low = leb-false p r (passes-when (passes-then (passes-first passed))) in
         let fits = ltb-false p I (passes-when (passes-then passed)) in
         let window = valid-window (passes-first (passes-first (passes-first passed))) in
-        said (some-basis p r I low (omega arith) fits)
+        said (basis-exists p r I low (omega arith) fits)

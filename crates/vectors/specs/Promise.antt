@@ -32,10 +32,10 @@ Spans p r I (Two left right) = IsPair p r I left right
 Spans p r I (One v) = IsSingle p r I v
 
 -- 01's number and vectors for each case of the reply.
-abbrev pub says : Steps → Said Basis
-says (Pair left right) = answered (Two left right)
-says (Single only) = answered (One only)
-says (Refused number) = refused number
+abbrev pub saysVectors : Steps → Said Basis
+saysVectors (Pair left right) = answered (Two left right)
+saysVectors (Single only) = answered (One only)
+saysVectors (Refused number) = refused number
 
 -- "three kinds of reply": with a complaint the refusal and its number, with none the pair or the single vector.
 abbrev pub Admits : Option Complaint → ℕ → ℕ → ℕ → Said Basis → Type 0
@@ -45,4 +45,4 @@ Admits none p r I (refused n) = ⊥
 
 -- The promise of the vectors call.
 unfoldable pub VectorsPromise : ℕ → ℕ → ℕ → Steps → Type 0
-VectorsPromise p r I steps = Admits (complaint (vectorsTests p r I)) p r I (says steps)
+VectorsPromise p r I steps = Admits (complaint (vectorsTests p r I)) p r I (saysVectors steps)

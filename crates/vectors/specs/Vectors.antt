@@ -1,7 +1,7 @@
 -- Document 01, "Step vectors": the lattice, the pair and the single vector.
-use Prim.Native.Nat.{ℕ, _*_, _/_, _≤_, _<_, _∣_}
+use Prim.Native.Nat.{ℕ, _+_, _*_, _/_, _≤_, _<_, _∣_}
 use mathlib.Core.Path.{_≡_}
-use lib.IntN.{pos, negℤ, natAbs, _-ℤ_, _*ℤ_}
+use lib.IntN.{ℤ, pos, negℤ, natAbs, _+ℤ_, _-ℤ_, _*ℤ_}
 use lib.Signed.{_≤ℤ_, _<ℤ_}
 use Rattle.lattice.specs.Gcd.{IsGcd}
 use Rattle.vectors.specs.declared.Vector.{Vector}
@@ -23,6 +23,26 @@ pub record IsPair (p r I : ℕ) (left right : Vector) : Type 0 where
   pub right-high : right .offset <ℤ pos I
   pub apart : pos I ≤ℤ (right .offset -ℤ left .offset)
   pub area : (pos (left .line) *ℤ right .offset) -ℤ (left .offset *ℤ pos (right .line)) ≡ pos p
+
+-- "no pair exists exactly when g ≥ I": that some pair exists.
+pub record APair (p r I : ℕ) : Type 0 where
+  pub left : Vector
+  pub right : Vector
+  pub is-pair : IsPair p r I left right
+
+-- "(so they are a basis)": the point (i, j) is k times the one vector and l times the other, k and l being whole numbers.
+pub record Whole (left right : Vector) (i j : ℤ) : Type 0 where
+  pub k : ℤ
+  pub l : ℤ
+  pub offset : i ≡ (k *ℤ left .offset) +ℤ (l *ℤ right .offset)
+  pub line : j ≡ (k *ℤ pos (left .line)) +ℤ (l *ℤ pos (right .line))
+
+-- 002, proposition 1, second half: "(i, j) = k(α, β) + l(γ, δ) with k ≥ 0 and l ≥ 0".
+pub record Sum (left right v : Vector) : Type 0 where
+  pub k : ℕ
+  pub l : ℕ
+  pub offset : v .offset ≡ (pos k *ℤ left .offset) +ℤ (pos l *ℤ right .offset)
+  pub line : v .line ≡ k * left .line + l * right .line
 
 -- "Single: no pair exists exactly when g ≥ I. The reply is then (0, p/g)".
 pub record IsSingle (p r I : ℕ) (v : Vector) : Type 0 where

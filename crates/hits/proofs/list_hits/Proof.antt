@@ -27,7 +27,7 @@ returns : tie.Need-returns
 unfolding listingTests
 returns c =
     let fails = first (blamed (c .before .before .before .judge .ensures) (c .before .number .given .1)) in
-    record { says = refuse-reply _ fails; holds = refuse-stored _ _ fails }
+    record { says = refuse-reply _ fails; stores = refuse-stored _ _ fails }
 
 enum-told : tie.Need-enum-told
 enum-told c = search needs
@@ -36,7 +36,7 @@ returns-2 : tie.Need-returns-2
 unfolding listingTests number
 returns-2 c =
     let fails = then (passes (c .before)) (broken (eq-eqb _ _ (c .if1 .taken))) in
-    record { says = refuse-reply _ fails; holds = refuse-stored _ _ fails }
+    record { says = refuse-reply _ fails; stores = refuse-stored _ _ fails }
 
 write-hits-requires : tie.Need-write-hits-requires
 write-hits-requires c κs = let g = granted (c .before .before) in (g .valid, g .source-valid, g .inside)
@@ -50,7 +50,7 @@ returns-3 c =
     let w = c .before .before in
     let i = w .before .before in
     let p = both (passes (i .before)) (sound (ne-eqb _ _ (i .if1 .left))) in
-    record { says = w .write-hits .ensures .says ∙ grant-reply _ p; holds = w .write-hits .ensures .holds ∙ grant-stored _ _ p }
+    record { says = w .write-hits .ensures .says ∙ grant-reply _ p; stores = w .write-hits .ensures .stores ∙ grant-stored _ _ p }
 
 pub list-hits-spec : {M : Type 1} → statement M
 list-hits-spec =

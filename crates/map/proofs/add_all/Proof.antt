@@ -8,7 +8,7 @@ use mathlib.Core.Option.{none}
 use Prim.Native.Nat.{ℕ, _/_, _≤_}
 use Rattle.scope.specs.declared.Run.{Run}
 use Rattle.scope.specs.Refusal.{complaint}
-use Rattle.scope.specs.Entry.{Entry, listTests}
+use Rattle.sources.specs.Entry.{Entry, listTests}
 use Rattle.map.specs.Map.{added}
 use Rattle.map.specs.Inner.{chosen}
 use Rattle.map.proofs.Entries.{AllBelow, valid-entries, valid-below, chosen-all, added-chosen}
@@ -43,7 +43,7 @@ add-blocks-requires c κs =
 add-chosen-requires : tie.Need-add-chosen-requires
 add-chosen-requires c κs =
     let p = c .before .before .before .before .before .before .before .before .before .before .before .before .pre in
-    record { valid = p .valid; even = p .even; sound = p .sound; whole = c .before .before .before .add-blocks .kept .1 .1 .1 .1 .1 .0 ∙ p .whole }
+    record { valid = p .valid; equal = p .equal; sound = p .sound; whole = c .before .before .before .add-blocks .kept .1 .1 .1 .1 .1 .0 ∙ p .whole }
 
 same-length : tie.Need-same-length
 same-length c = search needs

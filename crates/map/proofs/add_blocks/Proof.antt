@@ -9,12 +9,12 @@ use mathlib.Core.List.{List}
 use Prim.Native.Nat.{ℕ, suc, _+_, _-_, _*_, _≤_, _<_}
 use lib.ListN.{length, take, drop}
 use Rattle.scope.specs.declared.Run.{Run}
-use Rattle.scope.specs.Run.{Valid, linesOf, cellsOf, shiftOf}
+use Rattle.scope.specs.Run.{Valid, Within, linesOf, cellsOf, shiftOf}
 use Rattle.scope.proofs.Numbering.{IsBlock, valid-block, shift-next}
-use Rattle.scope.specs.Entry.{Entry, entriesOf}
+use Rattle.sources.specs.Entry.{Entry, entriesOf}
 use Rattle.map.specs.Map.{weightAt, added}
 use Rattle.map.specs.Inner.{chosen}
-use Rattle.map.proofs.Raised.{Within, RaisedBelow, starts, patch, ends}
+use Rattle.map.proofs.Raised.{RaisedBelow, starts, patch, ends}
 use Rattle.map.proofs.Entries.{weight-shift}
 use Rattle.map.proofs.add_blocks.Statement.{statement}
 use Rattle.map.proofs.add_blocks.Tie as tie
@@ -137,7 +137,7 @@ add-chosen-requires : tie.Need-add-chosen-requires Inv-loop μ-loop
 add-chosen-requires c κs =
     let p = c .before .before .before .before .before .before .before .before .before .before .before .pre in
     let b = c .before .before .before .before .block-from .ensures in
-    record { valid = valid-block (p .0 .valid) (b .0) (omega arith); even = p .0 .even; sound = p .0 .sound; whole = part-cells (c .before .before .before .before .before .before .before .loop .inv) (p .0 .valid) (p .0 .whole) (lent (c .before)) }
+    record { valid = valid-block (p .0 .valid) (b .0) (omega arith); equal = p .0 .equal; sound = p .0 .sound; whole = part-cells (c .before .before .before .before .before .before .before .loop .inv) (p .0 .valid) (p .0 .whole) (lent (c .before)) }
 
 add-first : tie.Need-add-first Inv-loop μ-loop
 add-first c = let b = c .before .before .before .before .before .before .before .before .block-from .ensures in let v = c .before .before .before .before .before .before .before .before .before .before .before .before .before .before .before .pre .0 .valid in omega arith

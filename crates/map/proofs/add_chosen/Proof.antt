@@ -9,16 +9,16 @@ use mathlib.Core.List.{List, [], _∷_}
 use Prim.Native.Nat.{ℕ, suc, _≤_, _<_, _-_, _+_}
 use lib.ListN.{length, getD, drop, drop-of-length-le}
 use Rattle.scope.specs.declared.Run.{Run}
-use Rattle.scope.specs.Entry.{entriesOf}
+use Rattle.scope.specs.Run.{Within}
+use Rattle.sources.specs.Entry.{entriesOf}
 use Rattle.map.specs.Map.{added}
 use Rattle.map.specs.Inner.{chosen}
-use Rattle.map.proofs.Raised.{Within}
 use Rattle.map.proofs.Entries.{entry, entries-from, ValidEntry, AllValid, valid-entries, added-append, added-none, added-length, added-within, chosen-cons, chosen-low, chosen-high}
 use Rattle.map.proofs.add_chosen.Statement.{statement}
 use Rattle.map.proofs.add_chosen.Tie as tie
 
 record Left (run : Run) (periods weights : List ℕ) (low high : ℕ) (map₀ map : List ℕ) (k : ℕ) : Type 0 where
-  even : length periods ≡ length weights
+  equal : length periods ≡ length weights
   within : k ≤ length periods
   valid : AllValid 255 (entriesOf (drop k periods) (drop k weights))
   as-long : length map ≡ length map₀
@@ -28,7 +28,7 @@ record Left (run : Run) (periods weights : List ℕ) (low high : ℕ) (map₀ ma
 module _ {run : Run} {periods weights : List ℕ} {low high : ℕ} {map₀ map : List ℕ} {k : ℕ} (left : Left run periods weights low high map₀ map k) where
   -- the entries left, by the one at place k
   these : k < length periods → entriesOf (drop k periods) (drop k weights) ≡ entry (getD periods k 0) (getD weights k 0) ∷ entriesOf (drop (suc k) periods) (drop (suc k) weights)
-  these h = let l = left .even in entries-from periods weights k h (omega arith)
+  these h = let l = left .equal in entries-from periods weights k h (omega arith)
 
   valid-here : k < length periods → ValidEntry 255 (entry (getD periods k 0) (getD weights k 0))
   valid-here h = (rw (these h) at (left .valid)) .0
@@ -37,7 +37,7 @@ module _ {run : Run} {periods weights : List ℕ} {low high : ℕ} {map₀ map :
   pass : k < length periods → chosen low high (entry (getD periods k 0) (getD weights k 0) ∷ entriesOf (drop (suc k) periods) (drop (suc k) weights)) ≡ chosen low high (entriesOf (drop (suc k) periods) (drop (suc k) weights)) → Left run periods weights low high map₀ map (k + 1)
   pass h e =
       record {
-        even = left .even;
+        equal = left .equal;
         within = omega arith;
         valid = rw add-one ((rw (these h) at (left .valid)) .1);
         as-long = left .as-long;
@@ -53,7 +53,7 @@ module _ {run : Run} {periods weights : List ℕ} {low high : ℕ} {map₀ map :
       let more : added 255 run (chosen low high rest) map′ ≡ added 255 run (chosen low high (entriesOf (drop k periods) (drop k weights))) map =
       rw e (added-append 255 run (one ∷ []) (chosen low high rest) map ∙ ap (λ l. added 255 run l map) (sym (chosen-cons low high one rest lower upper) ∙ ap (chosen low high) (sym (these h)))) in
       record {
-        even = left .even;
+        equal = left .equal;
         within = omega arith;
         valid = rw add-one ((rw (these h) at (left .valid)) .1);
         as-long = rw e (added-length 255 run (one ∷ []) map) ∙ left .as-long;
@@ -76,7 +76,7 @@ loop-holds : tie.Need-loop-holds Inv-loop μ-loop
 loop-holds c =
     let p = c .before .before .before .pre in
     record {
-      even = p .even;
+      equal = p .equal;
       within = omega arith;
       valid = valid-entries 255 1 _ (record { is = p .sound });
       as-long = refl;

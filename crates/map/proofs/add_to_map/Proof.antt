@@ -63,7 +63,7 @@ add-all-requires : tie.Need-add-all-requires
 add-all-requires c κs =
     let run = fine (c .before .before .before .before .before .before .before .before .before .judge-run .ensures) (c .before .before .before .before .before .before .before .enum-told .given .1) in
     let entries = fine (c .before .before .before .before .before .judge-entries .ensures) (c .before .before .before .enum-told2 .given .1) in
-    record { valid = valid-run run (omega (arith, c .before .before .before .before .before .before .before .before .before .before .before .before .before .good .0)); even = c .before .before .before .before .before .before .if1 .left; sound = entries .is; whole = c .before .if2 .left ∙ c .before .before .cells .ensures }
+    record { valid = valid-run run (omega (arith, c .before .before .before .before .before .before .before .before .before .before .before .before .before .good .0)); equal = c .before .before .before .before .before .before .if1 .left; sound = entries .is; whole = c .before .if2 .left ∙ c .before .before .cells .ensures }
 
 same-length : tie.Need-same-length
 same-length c = search needs

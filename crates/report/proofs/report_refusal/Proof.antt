@@ -7,7 +7,7 @@ use Rattle.text.specs.Form.{line}
 use Rattle.report.specs.Report.{refusedWord}
 use Rattle.report.proofs.Writing.{written-same}
 use Rattle.report.proofs.Longest.{line-long}
-use Rattle.report.proofs.Outputs.{blank-long, holds}
+use Rattle.report.proofs.Outputs.{blank-long, prints}
 use borrow.Author.Needs.{needs}
 use Rattle.report.proofs.report_refusal.Statement.{statement}
 use Rattle.report.proofs.report_refusal.Tie as tie
@@ -41,7 +41,7 @@ write-line-requires c κs =
 returns : tie.Need-returns
 returns c =
     let told = c .before .before .before .before .before in
-    holds (told .before .blank .ensures) (written-same (ap (λ n. line refusedWord (n ∷ [])) (told .wide .ensures)) (c .before .write-line .ensures))
+    prints (told .before .blank .ensures) (written-same (ap (λ n. line refusedWord (n ∷ [])) (told .wide .ensures)) (c .before .write-line .ensures))
 
 pub report-refusal-spec : {M : Type 1} → statement M
 report-refusal-spec =

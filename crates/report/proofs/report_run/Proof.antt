@@ -4,7 +4,7 @@ use mathlib.Core.Path.{ap}
 use lib.ListN.{length}
 use Rattle.map.proofs.Entries.{entries-length}
 use Rattle.report.proofs.Longest.{whole-long}
-use Rattle.report.proofs.Outputs.{blank-long, holds}
+use Rattle.report.proofs.Outputs.{blank-long, prints}
 use borrow.Author.Needs.{needs}
 use Rattle.report.proofs.report_run.Statement.{statement}
 use Rattle.report.proofs.report_run.Tie as tie
@@ -19,11 +19,11 @@ write-report-requires : tie.Need-write-report-requires
 write-report-requires c κs =
     let start = c .before .before .before .before in
     let a = start .pre .0 in
-    let few = entries-length (start .args .periods .now) (start .args .weights .now) (a .even) in
+    let few = entries-length (start .args .periods .now) (start .args .weights .now) (a .equal) in
     (a, omega (arith, whole-long a (omega (arith, start .pre .1)), ap length (c .before .blank .ensures), blank-long))
 
 returns : tie.Need-returns
-returns c = holds (c .before .before .before .blank .ensures) (c .before .write-report .ensures)
+returns c = prints (c .before .before .before .blank .ensures) (c .before .write-report .ensures)
 
 pub report-run-spec : {M : Type 1} → statement M
 report-run-spec =

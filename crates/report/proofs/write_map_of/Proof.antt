@@ -1,7 +1,7 @@
 -- `report::write_map_of` meets its contract: what adding leaves in the cleared cells is the map. Assumes nothing.
 use mathlib.Core.Path.{_≡_, ap}
 use mathlib.Core.List.{_++_}
-use Rattle.scope.specs.Entry.{entriesOf}
+use Rattle.sources.specs.Entry.{entriesOf}
 use Rattle.report.specs.Report.{mapReport, endReport, cellsReport}
 use Rattle.report.proofs.Writing.{written-same, fits-same}
 use Rattle.report.proofs.Mapped.{map-is}

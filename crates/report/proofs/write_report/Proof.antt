@@ -4,7 +4,7 @@ use mathlib.Core.Path.{refl, ap, _∙_}
 use mathlib.Core.List.{_++_}
 use native.Mathlib.Omega.{arith}
 use lib.ListN.{take}
-use Rattle.scope.specs.Entry.{entriesOf}
+use Rattle.sources.specs.Entry.{entriesOf}
 use Rattle.report.specs.Report.{zeros, runReport, srcReport, cellsReport, wholeReport}
 use Rattle.report.proofs.Mapped.{cleared-part}
 use Rattle.report.proofs.Writing.{Writing, writing-starts, writing-more, writing-last, piece-fits, last-fits}

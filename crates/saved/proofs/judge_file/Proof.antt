@@ -13,7 +13,7 @@ use Rattle.scope.specs.Refusal.{Tests, _when_, _andThen_, Blocks, number, compl
 use Rattle.scope.specs.Reply.{answered, verdict}
 use Rattle.scope.proofs.Judged.{Passes, broken, sound, first, then, both, fine, blamed, refuse-reply, grant-reply}
 use Rattle.scope.proofs.Limits.{valid-run, cells-few}
-use Rattle.saved.specs.File.{blocksFor, fileLength, blockAt, runOf, headingTests, mapTests, fileTests}
+use Rattle.saved.specs.File.{blocksFor, fileLength, blockAt, runOf, headingTests, cellBlocksTests, fileTests}
 use Rattle.saved.proofs.Differs.{differs, agrees}
 use Rattle.saved.proofs.judge_file.Statement.{statement}
 use Rattle.saved.proofs.judge_file.Tie as tie
@@ -59,7 +59,7 @@ counted : (c : tie.Else3) → Passes (toCount (c .before .before .before .before
 counted c = both (limited (c .before .before .before)) (sound (agrees refl (length-told (c .before)) (sym (c .if3 .left))))
 
 -- what was found of the blocks after block 0
-cells-judged : (c : tie.After-judge-cells) → let file = c .before .before .before .before .before .before .before .before .before .before .before .before .before .before .before .args .file .now in c .judge-cells .result ≡ verdict (complaint (mapTests (cellsOf (runOf file)) file (blocksFor (cellsOf (runOf file)))))
+cells-judged : (c : tie.After-judge-cells) → let file = c .before .before .before .before .before .before .before .before .before .before .before .before .before .before .before .args .file .now in c .judge-cells .result ≡ verdict (complaint (cellBlocksTests (cellsOf (runOf file)) file (blocksFor (cellsOf (runOf file)))))
 cells-judged c = rw (cells-told (c .before .before .before)) at (c .judge-cells .ensures)
 
 returns : tie.Need-returns

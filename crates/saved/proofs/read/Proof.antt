@@ -7,16 +7,16 @@ use Rattle.scope.specs.Run.{Valid, cellsOf}
 use Rattle.scope.specs.Refusal.{number}
 use Rattle.scope.proofs.Judged.{Passes, broken, sound, first, then, both, said-answered, said-refused}
 use Rattle.scope.proofs.Limits.{valid-run, cells-few}
-use Rattle.saved.specs.File.{blocksFor, fileLength, runOf, bytesIn, mapOf, fileTests, readTests}
-use Rattle.saved.specs.Promise.{saidOfReading}
+use Rattle.saved.specs.File.{blocksFor, fileLength, runOf, bytesIn, mapOf, fileTests, readingTests}
+use Rattle.saved.specs.Promise.{saysReading}
 use Rattle.saved.proofs.Differs.{differs, agrees}
-use Rattle.saved.proofs.Promises.{accepted, refuse-read, grant-read}
+use Rattle.saved.proofs.Promises.{accepted, refuse-reading, grant-reading}
 use Rattle.saved.proofs.read.Statement.{statement}
 use Rattle.saved.proofs.read.Tie as tie
 
 -- the file passes its tests, and the run answered is its own
 told : (c : tie.After-known-told2) → Passes (fileTests (c .before .before .before .before .before .before .args .file .now)) × (c .before .run .given .0 .0 ≡ runOf (c .before .before .before .before .before .before .args .file .now))
-told c = said-answered _ (ap saidOfReading (sym (c .before .run .given .1)) ∙ c .before .before .before .judge-file .ensures)
+told c = said-answered _ (ap saysReading (sym (c .before .run .given .1)) ∙ c .before .before .before .judge-file .ensures)
 
 valid : (c : tie.After-known-told2) → Valid (c .before .run .given .0 .0)
 valid c = valid-run (rw (← told c .1) at (accepted (told c .0) .limited)) (omega (arith, c .known-told2 .given))
@@ -38,8 +38,8 @@ cells-requires : tie.Need-cells-requires
 cells-requires c κs = valid c
 
 returns : tie.Need-returns
-unfolding readTests number
-returns c = refuse-read (then (told (c .before .before) .0) (broken (differs refl (cells-told (c .before)) (c .if1 .taken))))
+unfolding readingTests number
+returns c = refuse-reading (then (told (c .before .before) .0) (broken (differs refl (cells-told (c .before)) (c .if1 .taken))))
 
 load-requires : tie.Need-load-requires
 load-requires c κs =
@@ -50,18 +50,18 @@ load-requires c κs =
     (omega arith, accepted (told (celled .before) .0) .long ∙ ap fileLength (sym (c .before .if1 .left ∙ cells-told celled)))
 
 returns-2 : tie.Need-returns-2
-unfolding readTests
-returns-2 c = refuse-read (first (said-refused _ _ (ap saidOfReading (sym (c .before .number .given .1)) ∙ c .before .before .before .judge-file .ensures)))
+unfolding readingTests
+returns-2 c = refuse-reading (first (said-refused _ _ (ap saysReading (sym (c .before .number .given .1)) ∙ c .before .before .before .judge-file .ensures)))
 
 same-length : tie.Need-same-length
 same-length c = search needs
 
 returns-3 : tie.Need-returns-3
-unfolding readTests mapOf
+unfolding readingTests mapOf
 returns-3 c =
     let celled = c .before .before .before .before .before in
     let room = c .before .before .before .before .if1 .left ∙ cells-told celled in
-    grant-read
+    grant-reading
     (both (told (celled .before) .0) (sound (agrees refl (cells-told celled) (c .before .before .before .before .if1 .left))))
     (told (celled .before) .1)
     (c .before .before .load .ensures ∙ ap (λ n. take n (bytesIn (c .before .before .before .before .before .before .before .before .before .before .before .before .args .file .now) (blocksFor n))) room)

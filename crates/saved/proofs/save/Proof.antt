@@ -13,12 +13,12 @@ use Rattle.scope.specs.Refusal.{number, runTests}
 use Rattle.scope.proofs.Judged.{Passes, broken, sound, first, then, both, fine, blamed}
 use Rattle.scope.proofs.Limits.{valid-run, cells-few}
 use Rattle.saved.specs.Block.{blockOf}
-use Rattle.saved.specs.File.{heading, cellBlocks, blocksFor, fileLength, fileOf, saveTests}
+use Rattle.saved.specs.File.{heading, cellBlocks, blocksFor, fileLength, fileOf, savingTests}
 use Rattle.saved.proofs.Writing.{Written, written-none, written-part, written-length, written-all}
 use Rattle.saved.proofs.Block.{length-block}
 use Rattle.saved.proofs.Cells.{length-cellBlocks}
 use Rattle.saved.proofs.Differs.{differs, agrees}
-use Rattle.saved.proofs.Promises.{refuse-save, grant-save}
+use Rattle.saved.proofs.Promises.{refuse-saving, grant-saving}
 use Rattle.saved.proofs.save.Statement.{statement}
 use Rattle.saved.proofs.save.Tie as tie
 
@@ -68,8 +68,8 @@ enum-known-number : tie.Need-enum-known-number
 enum-known-number c = search needs
 
 returns : tie.Need-returns
-unfolding saveTests
-returns c = refuse-save (first (first (blamed (c .before .before .before .judge-run .ensures) (c .before .number .given .1))))
+unfolding savingTests
+returns c = refuse-saving (first (first (blamed (c .before .before .before .judge-run .ensures) (c .before .number .given .1))))
 
 enum-told : tie.Need-enum-told
 enum-told c = search needs
@@ -78,17 +78,17 @@ cells-requires : tie.Need-cells-requires
 cells-requires c κs = valid c
 
 returns-2 : tie.Need-returns-2
-unfolding saveTests number
-returns-2 c = refuse-save (first (then (passes (c .before .before)) (broken (differs refl (c .before .cells .ensures) (c .if1 .taken)))))
+unfolding savingTests number
+returns-2 c = refuse-saving (first (then (passes (c .before .before)) (broken (differs refl (c .before .cells .ensures) (c .if1 .taken)))))
 
 file-length-requires : tie.Need-file-length-requires
 file-length-requires c κs = let few = cells-few (valid (c .before .before)) in let e = c .before .cells .ensures in omega arith
 
 returns-3 : tie.Need-returns-3
-unfolding saveTests number
+unfolding savingTests number
 returns-3 c =
     let told = c .before .before in
-    refuse-save (then (both (passes (told .before .before)) (sound (agrees refl (told .before .cells .ensures) (told .if1 .left)))) (broken (differs refl (c .before .file-length .ensures ∙ ap fileLength (told .before .cells .ensures)) (c .if2 .taken))))
+    refuse-saving (then (both (passes (told .before .before)) (sound (agrees refl (told .before .cells .ensures) (told .if1 .left)))) (broken (differs refl (c .before .file-length .ensures ∙ ap fileLength (told .before .cells .ensures)) (c .if2 .taken))))
 
 sub-write-heading : tie.Need-sub-write-heading
 sub-write-heading c = search needs
@@ -123,12 +123,12 @@ same-length : tie.Need-same-length
 same-length c = search needs
 
 returns-4 : tie.Need-returns-4
-unfolding saveTests
+unfolding savingTests
 returns-4 c =
     let sized = c .before .before .before .before .before .before .before .before in
     let told = c .before .before .before .before .before .before .before .before .before .before in
     let cells = told .before .cells .ensures in
-    grant-save
+    grant-saving
     (both (both (passes (told .before .before)) (sound (agrees refl cells (told .if1 .left)))) (sound (agrees refl (sized .before .file-length .ensures ∙ ap fileLength cells) (sized .if2 .left))))
     (whole (admitted sized) (c .before .before .before .before .before .before .write-heading .ensures) (c .before .before .write-cells .ensures))
 

@@ -4,13 +4,13 @@ use Prim.Native.Nat.{_-_}
 use mathlib.Core.Path.{_≡_, refl, sym, _∙_}
 use native.Mathlib.Omega.{arith}
 use lib.ListN.{length, drop}
-use Rattle.saved.specs.Block.{zeros}
-use Rattle.saved.proofs.Filling.{zeros-end, zeros-on, zeros-off}
+use Rattle.saved.specs.Block.{allZero}
+use Rattle.saved.proofs.Filling.{all-zero-end, all-zero-on, all-zero-off}
 use Rattle.saved.proofs.zeros_from.Statement.{statement}
 use Rattle.saved.proofs.zeros_from.Tie as tie
 
 abbrev Inv-loop : tie.InvT-loop
-Inv-loop bytes from i₀ i = zeros (drop from bytes) ≡ zeros (drop i bytes)
+Inv-loop bytes from i₀ i = allZero (drop from bytes) ≡ allZero (drop i bytes)
 
 abbrev μ-loop : tie.MeasureT-loop
 μ-loop bytes from i₀ i = length bytes - i
@@ -24,7 +24,7 @@ shared-slice-read-if1 c = omega arith
 returns : tie.Need-returns Inv-loop μ-loop
 returns c =
     let inv = c .before .before .before .loop .inv in
-    sym (inv ∙ zeros-off _ _ (c .before .before .loop-test .taken) (c .if1 .taken))
+    sym (inv ∙ all-zero-off _ _ (c .before .before .loop-test .taken) (c .if1 .taken))
 
 add-i : tie.Need-add-i Inv-loop μ-loop
 add-i c = omega arith
@@ -35,10 +35,10 @@ loop-less c = omega arith
 loop-again : tie.Need-loop-again Inv-loop μ-loop
 loop-again c =
     let inv = c .before .before .before .loop .inv in
-    inv ∙ zeros-on _ _ (c .before .before .loop-test .taken) (c .if1 .left)
+    inv ∙ all-zero-on _ _ (c .before .before .loop-test .taken) (c .if1 .left)
 
 returns-2 : tie.Need-returns-2 Inv-loop μ-loop
-returns-2 c = sym (c .before .loop .inv ∙ zeros-end _ _ (c .loop-test .left))
+returns-2 c = sym (c .before .loop .inv ∙ all-zero-end _ _ (c .loop-test .left))
 
 pub zeros-from-spec : {M : Type 1} → statement M
 zeros-from-spec =

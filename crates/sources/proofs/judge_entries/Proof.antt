@@ -12,14 +12,14 @@ use Rattle.scope.specs.Refusal.{complaint, number, weightTests}
 use Rattle.scope.specs.Reply.{verdict}
 use Rattle.scope.specs.declared.Verdict.the-variants.{Fine, Refused}
 use Rattle.scope.proofs.Judged.{Fails, Passes, broken, sound, first, then, both, source-fails, no-tests, fine, blamed, refuse-verdict, grant-verdict}
-use Rattle.scope.specs.Entry.{entriesOf, entryTests, listTests}
+use Rattle.sources.specs.Entry.{entriesOf, entryTests, listTests}
 use Rattle.sources.proofs.Entries.{entry, entries-from}
 use Rattle.sources.proofs.judge_entries.Statement.{statement}
 use Rattle.sources.proofs.judge_entries.Tie as tie
 
 -- the tests from place k on come to what all of them come to
 record From (periods weights : List ℕ) (k : ℕ) : Type 0 where
-  even : length periods ≡ length weights
+  equal : length periods ≡ length weights
   within : k ≤ length periods
   same : complaint (listTests 255 1 (entriesOf periods weights)) ≡ complaint (listTests 255 (suc k) (entriesOf (drop k periods) (drop k weights)))
 
@@ -27,15 +27,15 @@ module _ {periods weights : List ℕ} {k : ℕ} (from : From periods weights k) 
   refuse-at : {n : ℕ} → k < length periods → Fails (entryTests 255 (entry (getD periods k 0) (getD weights k 0))) n → Refused n ≡ verdict (complaint (listTests 255 1 (entriesOf periods weights)))
   unfolding listTests
   refuse-at h f =
-      let l = from .even in
+      let l = from .equal in
       rw (from .same, entries-from periods weights k h (omega arith)) (refuse-verdict (first (source-fails f)))
 
   pass-at : k < length periods → Passes (entryTests 255 (entry (getD periods k 0) (getD weights k 0))) → From periods weights (k + 1)
   unfolding listTests complaint
   pass-at h p =
-      let l = from .even in
+      let l = from .equal in
       record {
-        even = from .even;
+        equal = from .equal;
         within = omega arith;
         same = from .same ∙ rw (entries-from periods weights k h (omega arith), p .is, add-one);
       }
@@ -51,7 +51,7 @@ abbrev μ-loop : tie.MeasureT-loop
 μ-loop periods weights k₀ k = length periods - k
 
 loop-holds : tie.Need-loop-holds Inv-loop μ-loop
-loop-holds c = record { even = c .before .before .pre; within = omega arith; same = refl }
+loop-holds c = record { equal = c .before .before .pre; within = omega arith; same = refl }
 
 mul-judge-period : tie.Need-mul-judge-period Inv-loop μ-loop
 mul-judge-period c = search needs

@@ -1,3 +1,4 @@
+-- `text::read_field` meets its contract: a space, and the number that is read after it. Assumes nothing.
 use mathlib.Core.Path.{subst}
 use borrow.Author.Needs.{needs}
 use Rattle.text.specs.Inner.{WordAt}

@@ -1,3 +1,4 @@
+-- `text::read_run` meets its contract: a line with four numbers is a run. Assumes nothing.
 use mathlib.Core.Path.{subst}
 use borrow.Author.Needs.{needs}
 use Rattle.text.specs.Inner.{LineAt}

@@ -1,3 +1,4 @@
+-- `text::read_source` meets its contract: a line with two numbers is a source and its weight. Assumes nothing.
 use mathlib.Core.Path.{subst}
 use borrow.Author.Needs.{needs}
 use Rattle.text.specs.Inner.{LineAt}

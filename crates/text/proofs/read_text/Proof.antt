@@ -11,10 +11,10 @@ use Rattle.scope.specs.Run.{cellsOf}
 use Rattle.scope.specs.Refusal.{_when_, _andThen_, TooMany, number, runTests}
 use Rattle.scope.proofs.Judged.{Passes, Fails, broken, sound, first, then, both, fine, blamed}
 use Rattle.scope.proofs.Limits.{valid-run}
-use Rattle.scope.specs.Entry.{entriesOf, listTests}
-use Rattle.text.specs.Form.{runWord, runNumbers, Content, Says}
+use Rattle.sources.specs.Entry.{entriesOf, listTests}
+use Rattle.text.specs.Form.{runWord, runNumbers, Content, Spells}
 use Rattle.text.specs.Promise.{textTests}
-use Rattle.text.specs.Inner.{Line, RunAt, Listed, SourcesAt}
+use Rattle.text.specs.Inner.{Line, RunAt, LinesListed, SourcesAt}
 use Rattle.text.proofs.Answers.{too-long, no-run, no-sources, has-form, refuses-form, refuses, accepts, entries-stored}
 use Rattle.text.proofs.read_text.Statement.{statement}
 use Rattle.text.proofs.read_text.Tie as tie
@@ -30,7 +30,7 @@ lists : (c : tie.After-known-told2)
     → let r = c .before .before .before .before .before in
     let k = r .before .before .before in
     let s = r .read-sources .last .1 .1 in
-    Listed (k .before .before .before .before .before .before .args .text .now) (k .before .run .given .0 .1 .0) (c .before .count .given .0 .0)
+    LinesListed (k .before .before .before .before .before .before .args .text .now) (k .before .run .given .0 .1 .0) (c .before .count .given .0 .0)
     (replicate 64 0) (replicate 64 0) (s .0) (s .1 .0)
 lists c = subst (SourcesAt _ _ _ _ _ _) (c .before .count .given .1) (c .before .before .before .before .before .read-sources .ensures)
 
@@ -39,7 +39,7 @@ abbrev content : tie.After-known-told2 → Content
 content c = record { run = c .before .before .before .before .before .before .before .before .before .run .given .0 .0; entries = lists c .entries }
 
 formed : (c : tie.After-known-told2)
-    → Says (c .before .before .before .before .before .before .before .before .before .before .before .before .before .before .args .text .now) (content c)
+    → Spells (c .before .before .before .before .before .before .before .before .before .before .before .before .before .before .args .text .now) (content c)
 formed c =
     let k = c .before .before .before .before .before .before .before .before in
     has-form (run-read k) (k .before .before .before .before .if1 .left) (lists c .lines)

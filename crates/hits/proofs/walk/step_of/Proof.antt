@@ -10,7 +10,7 @@ use mir.Val.{SFits}
 use mir.Facts.{toZ-ofZ, toZ-pos, fits-natAbs}
 use Rattle.signed.proofs.Parts.{parts, sum, apart, neg-up, neg-dn, abs-parts}
 use Rattle.vectors.specs.declared.Vector.{Vector}
-use Rattle.hits.specs.Walk.{Small}
+use Rattle.hits.specs.Walk.{Short}
 use Rattle.hits.proofs.walk.step_of.Statement.{statement}
 use Rattle.hits.proofs.walk.step_of.Tie as tie
 
@@ -21,7 +21,7 @@ record Held (v : Vector) (window : ℕ) : Type 0 where
   ahead : pos 0 ≤ℤ (pos (v .line * window) +ℤ v .offset)
   whole : pos (v .line * window) +ℤ v .offset ≡ pos (natAbs (pos (v .line * window) +ℤ v .offset))
 
-held : {v : Vector} {window : ℕ} → Small v window → Held v window
+held : {v : Vector} {window : ℕ} → Short v window → Held v window
 held {v} {window} h =
     let few = mul-le-mul (h .few) (h .wide) in
     let some = mul-le-mul-right window (h .rises) in

@@ -11,7 +11,7 @@ use mir.Val.{SFits}
 use mir.Facts.{toZ-ofZ}
 use Rattle.signed.proofs.Parts.{parts, sum, apart, neg-up, neg-dn}
 use Rattle.vectors.specs.declared.Vector.{Vector}
-use Rattle.hits.specs.Walk.{Small}
+use Rattle.hits.specs.Walk.{Short}
 use Rattle.hits.proofs.Walks.{near, near-fits}
 use Rattle.hits.proofs.walk.walk_by.Statement.{statement}
 use Rattle.hits.proofs.walk.walk_by.Tie as tie
@@ -23,14 +23,14 @@ record Held (edge : ℤ) (v : Vector) : Type 0 where
   fits : SFits w64 (edge -ℤ v .offset)
 
 -- a vector's offset is small
-offset-near : {v : Vector} {window : ℕ} → Small v window → (negℤ (pos 4096) ≤ℤ v .offset) × (v .offset ≤ℤ pos 4096)
+offset-near : {v : Vector} {window : ℕ} → Short v window → (negℤ (pos 4096) ≤ℤ v .offset) × (v .offset ≤ℤ pos 4096)
 offset-near {v} {window} h =
     let w = h .wide in
     let a = h .left in
     let b = h .right in
     (omega (arith, parts, neg-up (pos 4096), neg-dn (pos 4096), neg-up (pos window), neg-dn (pos window)), omega (arith, parts))
 
-held : {edge : ℤ} {v : Vector} {window : ℕ} (d : ℕ) → Small v window → d ≤ window → edge ≡ pos d -ℤ pos (window / 2) → Held edge v
+held : {edge : ℤ} {v : Vector} {window : ℕ} (d : ℕ) → Short v window → d ≤ window → edge ≡ pos d -ℤ pos (window / 2) → Held edge v
 held {edge} {v} {window} d h l is =
     let w = h .wide in
     let n = near d (window / 2) (omega arith) (omega arith) in
@@ -51,7 +51,7 @@ high-held : (c : tie.After-offset-at2) → Held (c .offset-at2 .result) (c .befo
 high-held c = let s = c .before .before .before .before .before .before .before in held (s .args .width) (s .pre .1) (s .pre .2) (c .offset-at2 .ensures)
 
 -- a step has as many cells as its lines, or a window more
-cells-few : {v : Vector} {window cells : ℕ} → Small v window → pos cells ≡ pos (v .line * window) +ℤ v .offset → cells ≤ 2 ^ 44
+cells-few : {v : Vector} {window cells : ℕ} → Short v window → pos cells ≡ pos (v .line * window) +ℤ v .offset → cells ≤ 2 ^ 44
 cells-few {v} {window} h e =
     let few = mul-le-mul (h .few) (h .wide) in
     let o = offset-near h .1 in
