@@ -1,18 +1,29 @@
--- What the promise of the report tells: where its bytes lie, and that no second output fits. Assumes nothing.
+-- What the promise of the report tells: where its bytes lie, that these are printed, and that no second output fits. Assumes nothing.
 use Prim.Native.Nat.{ℕ, _≤_}
 use native.Mathlib.Omega.{arith}
 use mathlib.Core.Path.{_≡_, sym, ap, _∙_}
 use mathlib.Core.List.{List, _++_}
-use lib.ListN.{length, drop, length-append}
+use lib.ListN.{length, take, drop, length-append}
+use lib.Seq.{take-at}
 use Rattle.text.proofs.Unique.{reads-unique}
 use Rattle.report.specs.declared.Output.{Output}
-use Rattle.report.specs.Report.{reportOf, blank, ReportPromise}
+use Rattle.report.specs.Report.{reportOf, blank, ReportPromise, PrintedOf}
 
 -- the bytes that are printed lie within the room
 pub output-within : {text : List ℕ} {output : Output} → ReportPromise text output → output .length ≤ length (output .bytes)
 output-within p =
     let bytes = reportOf (p .content) in
     omega (arith, p .says .counts, ap length (p .says .begins), length-append bytes (drop (length bytes) blank))
+
+-- the bytes that are counted are what is printed
+pub output-prints : {text : List ℕ} {output : Output} → ReportPromise text output → PrintedOf text (take (output .length) (output .bytes))
+output-prints p =
+    let bytes = reportOf (p .content) in
+    record {
+      content = p .content;
+      reads = p .reads;
+      is = rw (p .says .begins) (take-at bytes (drop (length bytes) blank) _ (sym (p .says .counts)));
+    }
 
 -- no second output fits
 pub report-unique : (text : List ℕ) (a b : Output) → ReportPromise text a → ReportPromise text b → a ≡ b

@@ -98,3 +98,9 @@ pub record ReportPromise (text : List ℕ) (output : Output) : Type 0 where
   pub content : Option Content
   pub reads : Reads text content
   pub says : Prints (reportOf content) output
+
+-- These bytes are what is printed of the text.
+pub record PrintedOf (text bytes : List ℕ) : Type 0 where
+  pub content : Option Content
+  pub reads : Reads text content
+  pub is : bytes ≡ reportOf content

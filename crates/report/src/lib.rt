@@ -14,7 +14,7 @@ ghost use Rattle.text.specs.Form.{line};
 ghost use Rattle.scope.specs.Run.{Valid, ValidSource, cellsOf};
 ghost use Rattle.scope.specs.Hit.{hitsFrom};
 ghost use Rattle.sources.specs.Entry.{entriesOf};
-ghost use Rattle.report.specs.Report.{zeros, blank, runReport, entryReport, srcReport, cellReport, mapReport, above, endReport, cellsReport, wholeReport, refusedWord, Prints, ReportPromise};
+ghost use Rattle.report.specs.Report.{zeros, blank, runReport, entryReport, srcReport, cellReport, mapReport, above, endReport, reportedMap, cellsReport, wholeReport, refusedWord, Prints, ReportPromise};
 ghost use Rattle.report.specs.Inner.{Reportable, cleared};
 
 // What the list program prints: how many bytes, and the bytes; the rest is 0. The longest report has 920,650 bytes at most.
@@ -125,9 +125,9 @@ fn cleared() -> [u8; 65536]
     [0; 65536]
 }
 
-// Room for as many hits as a run that a text may have has cells.
+// Room for as many hits as a run that a text may have has cells, with nothing in it.
 fn hit_room() -> [u64; 65536]
-    ensures { λ r. ⌜ 65536 ≡ length r ⌝ }
+    ensures { λ r. ⌜ r ≡ zeros 65536 ⌝ }
 {
     [0; 65536]
 }
@@ -217,6 +217,7 @@ fn write_map_of(
     requires { ⌜ now map ≡ zeros (cellsOf run) ⌝ }
     requires { ⌜ at + length (cellsReport run (entriesOf (now periods) (now weights))) ≤ length (now room) ⌝ }
     ensures { λ r. ⌜ Written (now (room .entry)) at (cellsReport run (entriesOf (now (periods .entry)) (now (weights .entry)))) r (now (room .exit)) ⌝ }
+    ensures { λ _. ⌜ now (map .exit) ≡ reportedMap run (entriesOf (now (periods .entry)) (now (weights .entry))) ⌝ }
 {
     map::add_to_map(run, periods, weights, map);
     write_cells(room, at, map)

@@ -14,10 +14,11 @@ use Rattle.sources.specs.Lists.{periodsOf, weightsOf}
 use Rattle.sources.proofs.Entries.{entries-of, periods-length, weights-length}
 use Rattle.text.specs.Form.{runWord, runNumbers, srcLines, textOf, Content, Spells}
 use Rattle.text.specs.Promise.{Reads, textTests, handed, padded, refusal, TextPromise}
-use Rattle.text.specs.Inner.{Line, NoLine, Lines, LinesListed, NoLines}
+use Rattle.text.specs.Inner.{Line, NoLine, Lines, storedIn, LinesListed, NoLines}
 use Rattle.text.specs.declared.Input.{Input}
 use Rattle.text.specs.declared.Answer.the-variants.{Read}
 use Rattle.text.proofs.Lines.{line-split}
+use Rattle.text.proofs.Listing.{stored-fits}
 
 -- ---- what a text says
 
@@ -67,9 +68,9 @@ drop-zeros (suc k) zero = let e : 0 ≡ 0 - suc k = omega arith in ap (λ m. rep
 drop-zeros (suc k) (suc n) = let e : n - k ≡ suc n - suc k = omega arith in drop-zeros k n ∙ ap (λ m. replicate m 0) e
 
 -- the lists of 64 zeros, after the numbers were stored at their beginning
-padded-is : (numbers : List ℕ) (count : ℕ) → length numbers ≡ count → count ≤ 64 → numbers ++ drop count (replicate 64 0) ≡ padded numbers
+padded-is : (numbers : List ℕ) (count : ℕ) → length numbers ≡ count → count ≤ 64 → storedIn numbers (replicate 64 0) ≡ padded numbers
 unfolding padded
-padded-is numbers count l h = ap (λ rest. numbers ++ rest) (drop-zeros count 64 ∙ ap (λ k. replicate (64 - k) 0) (sym l))
+padded-is numbers count l h = stored-fits numbers (replicate 64 0) (omega arith) ∙ ap (λ rest. numbers ++ rest) (drop-zeros (length numbers) 64)
 
 pub accepts : {text : List ℕ} {run : Run} {at count : ℕ} {periods weights : List ℕ} (g : LinesListed text at count (replicate 64 0) (replicate 64 0) periods weights)
     → count ≤ 64
@@ -82,16 +83,20 @@ accepts {run = run} {count = count} g h s p =
       reads = s;
       says = grant-reply run p;
       counts = sym (g .counted) ∙ ap length all;
-      periods = g .storesPeriods h ∙ padded-is (periodsOf (g .entries)) count (periods-length (g .entries) ∙ g .counted) h ∙ ap (λ es. padded (periodsOf es)) all;
-      weights = g .storesWeights h ∙ padded-is (weightsOf (g .entries)) count (weights-length (g .entries) ∙ g .counted) h ∙ ap (λ es. padded (weightsOf es)) all;
+      periods = g .storesPeriods ∙ padded-is (periodsOf (g .entries)) count (periods-length (g .entries) ∙ g .counted) h ∙ ap (λ es. padded (periodsOf es)) all;
+      weights = g .storesWeights ∙ padded-is (weightsOf (g .entries)) count (weights-length (g .entries) ∙ g .counted) h ∙ ap (λ es. padded (weightsOf es)) all;
     }
+
+-- the numbers are the first of them
+first-stored : (numbers : List ℕ) (count : ℕ) → length numbers ≡ count → count ≤ 64 → take count (storedIn numbers (replicate 64 0)) ≡ numbers
+first-stored numbers count l h = ap (take count) (stored-fits numbers (replicate 64 0) (omega arith)) ∙ take-at numbers _ count l
 
 -- the parts of the lists that are judged are the entries
 pub entries-stored : {text : List ℕ} {at count : ℕ} {periods weights : List ℕ} (g : LinesListed text at count (replicate 64 0) (replicate 64 0) periods weights)
     → count ≤ 64 → entriesOf (take count periods) (take count weights) ≡ g .entries
 entries-stored {count = count} {periods = periods} {weights = weights} g h =
     let p : take count periods ≡ periodsOf (g .entries) =
-    ap (take count) (g .storesPeriods h) ∙ take-at (periodsOf (g .entries)) _ count (periods-length (g .entries) ∙ g .counted) in
+    ap (take count) (g .storesPeriods) ∙ first-stored (periodsOf (g .entries)) count (periods-length (g .entries) ∙ g .counted) h in
     let w : take count weights ≡ weightsOf (g .entries) =
-    ap (take count) (g .storesWeights h) ∙ take-at (weightsOf (g .entries)) _ count (weights-length (g .entries) ∙ g .counted) in
+    ap (take count) (g .storesWeights) ∙ first-stored (weightsOf (g .entries)) count (weights-length (g .entries) ∙ g .counted) h in
     rw (p, w) (entries-of (g .entries))

@@ -5,10 +5,10 @@ use native.Mathlib.Nat.{add-zero}
 use native.Mathlib.Omega.{arith}
 use mathlib.Core.Path.{_≡_, refl, sym, ap, _∙_, subst}
 use mathlib.Core.Bool.{false}
-use mathlib.Core.List.{List, [], _∷_, _++_, append-assoc, append-nil}
+use mathlib.Core.List.{List, [], _∷_, _++_, append-assoc}
 use native.Mathlib.Numerals.{add-one}
 use lib.ListN.{length, take, drop, getD, set, length-set, length-append, length-drop, drop-of-length-le}
-use lib.Seq.{drop-append-seam, take-suc, drop-cons, split-at, take-all, take-suc-set}
+use lib.Seq.{drop-append-seam, take-suc, drop-cons, split-at, take-all, set-at}
 use Rattle.decimal.specs.Digits.{digits, beginsWithDigit}
 use Rattle.decimal.specs.Promises.{Reading}
 use Rattle.decimal.specs.declared.Number.{Number}
@@ -16,7 +16,7 @@ use Rattle.decimal.specs.declared.Number.the-variants.{Value, Bad}
 use Rattle.decimal.proofs.Laws.{digits-split}
 use Rattle.decimal.proofs.Readings.{stands}
 use Rattle.text.specs.Form.{fields, line, Small}
-use Rattle.text.specs.Inner.{Spelled, NoWord, Field, NoField, FieldAt, Line, NoLine, LineAt, WordAt}
+use Rattle.text.specs.Inner.{Spelled, NoWord, Field, NoField, FieldAt, Numbers, Line, NoLine, LineFails, LineAt, WordAt}
 use Rattle.text.specs.declared.Found.{Found}
 use Rattle.text.specs.declared.Found.the-variants.{Next, Nothing}
 
@@ -182,46 +182,106 @@ module _ {text : List ℕ} {at : ℕ} {word : List ℕ} {next : ℕ} (s : Spelle
       record { none = λ numbers rest l small e. n .none numbers rest l small (spelled-forced s (e ∙ append-assoc word (fields numbers) rest)) }
 
 -- where the word does not stand, no line does
-pub no-word : {text : List ℕ} {at : ℕ} {word : List ℕ} → NoWord text at word → (count : ℕ) → NoLine text at word count
+no-word : {text : List ℕ} {at : ℕ} {word : List ℕ} → NoWord text at word → (count : ℕ) → NoLine text at word count
 unfolding line
 no-word {word = word} n count =
     record { none = λ numbers rest l small e. n .none (fields numbers ++ rest) (e ∙ append-assoc word (fields numbers) rest) }
 
 -- ---- a line, number after number
 
--- the word and k numbers, which the room has, are passed up to `next`: numbers that stand there make a line, and where none stand there is none
-pub record Passing (text : List ℕ) (at : ℕ) (word : List ℕ) (count : ℕ) (room : List ℕ) (k next : ℕ) : Type 0 where
-  pub long : length room ≡ count
-  pub within : k ≤ count
-  pub joins : {numbers : List ℕ} {end : ℕ} → Fields text next numbers end → Line text at word (take k room ++ numbers) end
-  pub refutes : NoFields text next (count - k) → NoLine text at word count
+module _ {text : List ℕ} where
+  numbers-more : (numbers : List ℕ) (at next : ℕ) {v end : ℕ} → Numbers text at numbers next → Field text next v end → Numbers text at (numbers ++ (v ∷ [])) end
+  numbers-more [] at next {v} {end} n f = (end, subst (λ a. Field text a v end) n f, refl)
+  numbers-more (w ∷ numbers) at next n f = (n .0, n .1, numbers-more numbers (n .0) next (n .2) f)
 
-pub passing-none : {text : List ℕ} {at : ℕ} {word : List ℕ} {next : ℕ} → Spelled text at word next → (room : List ℕ) → Passing text at word (length room) room 0 next
-passing-none s room =
-    let all : length room - 0 ≡ length room = omega arith in
-    record { long = refl; within = omega arith; joins = word-joins s; refutes = λ n. word-refutes s (rw all at n) }
+  -- numbers in front of numbers and a newline
+  numbers-join : (numbers : List ℕ) (at next : ℕ) {more : List ℕ} {end : ℕ} → Numbers text at numbers next → Fields text next more end
+      → Fields text at (numbers ++ more) end
+  numbers-join [] at next {more} {end} n g = subst (λ a. Fields text a more end) n g
+  numbers-join (w ∷ numbers) at next n g = field-joins (n .1) (numbers-join numbers (n .0) next (n .2) g)
 
-module _ {text : List ℕ} {at : ℕ} {word : List ℕ} {count : ℕ} {room : List ℕ} {k next : ℕ} (p : Passing text at word count room k next) where
-  pub passing-more : {v end : ℕ} → k < length room → Field text next v end → Passing text at word count (set room k v) (k + 1) end
-  passing-more {v} {end} h f =
-      let less : count - k ≡ suc (count - (k + 1)) = omega (arith, p .long) in
+  -- where so many more do not follow, there are no so many with them
+  numbers-refute : (numbers : List ℕ) (at next : ℕ) {count : ℕ} → Numbers text at numbers next → NoFields text next count
+      → NoFields text at (length numbers + count)
+  numbers-refute [] at next {count} n g =
+      let e : 0 + count ≡ count = omega arith in
+      rw e (subst (λ a. NoFields text a count) n g)
+  numbers-refute (w ∷ numbers) at next {count} n g =
+      let e : suc (length numbers) + count ≡ suc (length numbers + count) = omega arith in
+      rw e (field-refutes (n .1) (numbers-refute numbers (n .0) next (n .2) g))
+
+-- a number stored behind those that are stored
+store-next : (front before : List ℕ) (count v : ℕ) → length front ≡ count → count < length before
+    → set (front ++ drop count before) count v ≡ (front ++ (v ∷ [])) ++ drop (count + 1) before
+store-next front before count v l h =
+    rw (drop-cons before count 0 h, set-at front (getD before count 0) (drop (suc count) before) v count l, append-assoc, add-one)
+
+-- the word and k numbers are passed up to `next`; the room has the numbers, and behind them what it had before
+pub record Passing (text : List ℕ) (at : ℕ) (word before room : List ℕ) (k next : ℕ) : Type 0 where
+  pub start : ℕ
+  pub named : Spelled text at word start
+  pub numbers : List ℕ
+  pub stand : Numbers text start numbers next
+  pub counted : length numbers ≡ k
+  pub within : k ≤ length before
+  pub long : length room ≡ length before
+  pub stores : room ≡ numbers ++ drop k before
+
+pub passing-none : {text : List ℕ} {at : ℕ} {word : List ℕ} {next : ℕ} → Spelled text at word next → (room : List ℕ) → Passing text at word room room 0 next
+passing-none {next = next} s room =
+    record { start = next; named = s; numbers = []; stand = refl; counted = refl; within = omega arith; long = refl; stores = refl }
+
+module _ {text : List ℕ} {at : ℕ} {word before room : List ℕ} {k next : ℕ} (p : Passing text at word before room k next) where
+  pub passing-more : {v end : ℕ} → k < length room → Field text next v end → Passing text at word before (set room k v) (k + 1) end
+  passing-more {v} h f =
+      let more = v ∷ [] in
       record {
-        long = simp length-set (p .long);
+        start = p .start;
+        named = p .named;
+        numbers = p .numbers ++ more;
+        stand = numbers-more (p .numbers) (p .start) next (p .stand) f;
+        counted = length-append (p .numbers) more ∙ omega (arith, p .counted);
         within = omega (arith, p .long);
-        joins = λ g. rw (add-one k, take-suc-set room k v h, append-assoc) (p .joins (field-joins f g));
-        refutes = λ n. p .refutes (rw less (field-refutes f n));
+        long = simp length-set (p .long);
+        stores = rw (p .stores) (store-next (p .numbers) before k v (p .counted) (omega (arith, p .long)));
       }
 
-  pub passing-bad : k < length room → NoField text next → NoLine text at word count
-  passing-bad h n =
-      let less : count - k ≡ suc (count - (k + 1)) = omega (arith, p .long) in
-      p .refutes (rw less (no-field n (count - (k + 1))))
+  -- the line breaks off there
+  breaks-off : (k < length before → NoField text next) → NoFields text next (length before - k) → LineFails text at word before room
+  breaks-off ends n =
+      let all : length (p .numbers) + (length before - k) ≡ length before = omega (arith, p .counted, p .within) in
+      record {
+        none = word-refutes (p .named) (rw all at (numbers-refute (p .numbers) (p .start) next (p .stand) n));
+        unread = λ w. absurd (w .none _ (p .named .is));
+        read =
+            λ start s.
+            record {
+              numbers = p .numbers;
+              next = next;
+              stand = subst (λ a. Numbers text a (p .numbers) next) (p .named .place ∙ sym (s .place)) (p .stand);
+              fits = omega (arith, p .counted, p .within);
+              ends = λ h. ends (omega (arith, p .counted));
+              stores = rw (p .counted) (p .stores);
+            };
+      }
 
-  pub passing-ends : (before : List ℕ) → length before ≡ count → length room ≤ k → (f : Found) → WordAt text next (10 ∷ []) f → LineAt text at word before room f
-  passing-ends before l h (Next end) w = rw (append-nil, take-all k room h) at (p .joins (newline w))
-  passing-ends before l h Nothing w =
-      let none-left : count - k ≡ 0 = omega (arith, p .long) in
-      rw l (p .refutes (rw none-left (no-newline w)))
+  pub passing-bad : k < length room → NoField text next → LineFails text at word before room
+  passing-bad h n =
+      let less : length before - k ≡ suc (length before - (k + 1)) = omega (arith, p .long) in
+      breaks-off (λ l. n) (rw less (no-field n (length before - (k + 1))))
+
+  pub passing-ends : length room ≤ k → (f : Found) → WordAt text next (10 ∷ []) f → LineAt text at word before room f
+  passing-ends h (Next end) w =
+      let all : room ≡ p .numbers ++ [] = p .stores ∙ ap (λ r. p .numbers ++ r) (drop-of-length-le before {i = k} (omega (arith, p .long))) in
+      subst (λ ns. Line text at word ns end) (sym all) (word-joins (p .named) (numbers-join (p .numbers) (p .start) next (p .stand) (newline w)))
+  passing-ends h Nothing w =
+      let none-left : length before - k ≡ 0 = omega (arith, p .long) in
+      breaks-off (λ l. absurd (omega (arith, p .long))) (rw none-left (no-newline w))
+
+-- where the word does not stand, the room is as it was
+pub line-unread : {text : List ℕ} {at : ℕ} {word : List ℕ} → NoWord text at word → (room : List ℕ) → LineFails text at word room room
+line-unread n room =
+    record { none = no-word n (length room); unread = λ w. refl; read = λ start s. absurd (n .none _ (s .is)) }
 
 -- ---- the numbers in a room
 

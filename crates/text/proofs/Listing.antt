@@ -1,51 +1,79 @@
 -- The `src` lines of a text, one after the other: what is passed joins what follows, and leaves a text only one way to go on.
 -- Each law adds one line behind those passed. Assumes nothing.
-use Prim.Native.Nat.{ℕ, suc, _+_, _≤_, _<_}
+use Prim.Native.Nat.{ℕ, _+_, _≤_, _<_}
 use native.Mathlib.Omega.{arith}
-use native.Mathlib.Numerals.{add-one}
 use mathlib.Core.Path.{_≡_, refl, sym, ap, _∙_}
 use mathlib.Core.List.{List, [], _∷_, _++_, append-assoc, append-nil}
-use lib.ListN.{length, drop, getD, set, length-append, length-drop, length-set, drop-of-length-le}
-use lib.Seq.{drop-cons, set-at}
+use lib.ListN.{length, drop, set, length-append, length-drop, length-set, drop-of-length-le}
 use Rattle.sources.specs.Entry.{Entry}
 use Rattle.sources.specs.Lists.{periodsOf, weightsOf}
 use Rattle.sources.proofs.Entries.{entry, periods-length, weights-length, periods-append, weights-append}
-use Rattle.text.specs.Form.{line, srcWord, srcNumbers, srcLines}
-use Rattle.text.specs.Inner.{Line, NoLine, Lines, LinesListed, NoLines}
-use Rattle.text.proofs.Lines.{spelled-within, line-split}
+use Rattle.text.specs.Form.{line, srcWord, srcNumbers, srcLines, AllSmall}
+use Rattle.text.specs.Inner.{Spelled, Line, NoLine, Lines, storedIn, LinesListed, NoLines, LinesFail}
+use Rattle.text.proofs.Lines.{spelled-none, spelled-append, spelled-within, line-split}
 
--- `count` lines are passed up to `next`: lines that follow join them, and where none can follow, none stand at `at`
+-- ---- numbers stored from the front of a room on
+
+stored-none : (room : List ℕ) → storedIn [] room ≡ room
+unfolding storedIn
+stored-none [] = refl
+stored-none (old ∷ room) = refl
+
+-- one number more, stored behind them or, where the room is full, nowhere
+stored-more : (numbers room : List ℕ) (v : ℕ) → set (storedIn numbers room) (length numbers) v ≡ storedIn (numbers ++ (v ∷ [])) room
+unfolding storedIn
+stored-more [] [] v = refl
+stored-more (n ∷ numbers) [] v = refl
+stored-more [] (old ∷ room) v = ap (λ l. v ∷ l) (sym (stored-none room))
+stored-more (n ∷ numbers) (old ∷ room) v = ap (λ l. n ∷ l) (stored-more numbers room v)
+
+-- where there is room for them all
+pub stored-fits : (numbers room : List ℕ) → length numbers ≤ length room → storedIn numbers room ≡ numbers ++ drop (length numbers) room
+unfolding storedIn
+stored-fits [] room h = stored-none room
+stored-fits (n ∷ numbers) [] h = absurd (omega arith)
+stored-fits (n ∷ numbers) (old ∷ room) h = ap (λ l. n ∷ l) (stored-fits numbers room (omega arith))
+
+-- ---- lines
+
+src-lines-append : (a b : List Entry) → srcLines (a ++ b) ≡ srcLines a ++ srcLines b
+unfolding srcLines
+src-lines-append [] b = refl
+src-lines-append (e ∷ a) b =
+    ap (λ l. line srcWord (srcNumbers e) ++ l) (src-lines-append a b) ∙ sym (append-assoc (line srcWord (srcNumbers e)) (srcLines a) (srcLines b))
+
+all-small-append : (a b : List Entry) → AllSmall a → AllSmall b → AllSmall (a ++ b)
+all-small-append [] b s t = t
+all-small-append (e ∷ a) b s t = (s .0, all-small-append a b (s .1) t)
+
+-- `count` lines are passed up to `next`, and their numbers are stored; where none can follow, none stand at `at`
 pub record Listing (text : List ℕ) (at : ℕ) (periods weights periods′ weights′ : List ℕ) (next count : ℕ) : Type 0 where
   pub entries : List Entry
   pub counted : length entries ≡ count
   pub far : count ≤ next
-  pub joins : {more : List Entry} → Lines text next more → Lines text at (entries ++ more)
+  pub small : AllSmall entries
+  pub stand : Spelled text at (srcLines entries) next
   pub refutes : NoLines text next → NoLines text at
   pub periodsLong : length periods′ ≡ length periods
   pub weightsLong : length weights′ ≡ length weights
-  pub storesPeriods : count ≤ length periods → periods′ ≡ periodsOf entries ++ drop count periods
-  pub storesWeights : count ≤ length weights → weights′ ≡ weightsOf entries ++ drop count weights
+  pub storesPeriods : periods′ ≡ storedIn (periodsOf entries) periods
+  pub storesWeights : weights′ ≡ storedIn (weightsOf entries) weights
 
 pub listing-none : (text : List ℕ) (at : ℕ) (periods weights : List ℕ) → Listing text at periods weights periods weights at 0
-unfolding periodsOf weightsOf
+unfolding periodsOf weightsOf srcLines
 listing-none text at periods weights =
     record {
       entries = [];
       counted = refl;
       far = omega arith;
-      joins = λ l. l;
+      small = tt;
+      stand = spelled-none;
       refutes = λ n. n;
       periodsLong = refl;
       weightsLong = refl;
-      storesPeriods = λ h. refl;
-      storesWeights = λ h. refl;
+      storesPeriods = sym (stored-none periods);
+      storesWeights = sym (stored-none weights);
     }
-
--- a number stored behind those that are stored
-store-next : (front before : List ℕ) (count v : ℕ) → length front ≡ count → count < length before
-    → set (front ++ drop count before) count v ≡ (front ++ (v ∷ [])) ++ drop (count + 1) before
-store-next front before count v l h =
-    rw (drop-cons before count 0 h, set-at front (getD before count 0) (drop (suc count) before) v count l, append-assoc, add-one)
 
 -- a text that has not ended is no end
 not-ended : (text : List ℕ) (at : ℕ) → at < length text → drop at text ≡ [] → ⊥
@@ -60,11 +88,6 @@ module _ {text : List ℕ} {at period weight next : ℕ} (l : Line text at srcWo
   pub line-ends : (at < next) × (next ≤ length text)
   line-ends = spelled-within (l .stands) (line-long period weight)
 
-  line-joins : {more : List Entry} → Lines text next more → Lines text at (entry period weight ∷ more)
-  unfolding srcLines
-  line-joins m =
-      record { small = (l .small, m .small); is = l .stands .is ∙ ap (λ rest. line srcWord (period ∷ weight ∷ []) ++ rest) (m .is) }
-
   line-refutes : NoLines text next → NoLines text at
   unfolding srcLines
   line-refutes n = record { none = go }
@@ -76,7 +99,7 @@ module _ {text : List ℕ} {at period weight next : ℕ} (l : Line text at srcWo
           (record { small = m .small .1; is = line-split srcWord _ (srcNumbers e) (drop next text) (srcLines entries) (sym (l .stands .is) ∙ m .is) .1 })
 
 -- where the text has not ended and no line stands, no lines do
-pub no-line : {text : List ℕ} {at : ℕ} → at < length text → NoLine text at srcWord 2 → NoLines text at
+no-line : {text : List ℕ} {at : ℕ} → at < length text → NoLine text at srcWord 2 → NoLines text at
 unfolding srcLines
 no-line {text} {at} h n = record { none = go }
   where
@@ -91,28 +114,43 @@ module _ {text : List ℕ} {at : ℕ} {periods weights periods′ weights′ : L
   pub listing-more : {period weight end : ℕ} {periods″ weights″ : List ℕ} → Line text next srcWord (period ∷ weight ∷ []) end
       → periods″ ≡ set periods′ count period → weights″ ≡ set weights′ count weight
       → Listing text at periods weights periods″ weights″ end (count + 1)
-  unfolding periodsOf weightsOf
+  unfolding periodsOf weightsOf srcLines
   listing-more {period} {weight} {end} l p w =
       let new = entry period weight ∷ [] in
+      let front = g .entries in
       record {
-        entries = g .entries ++ new;
-        counted = length-append (g .entries) new ∙ omega (arith, g .counted);
+        entries = front ++ new;
+        counted = length-append front new ∙ omega (arith, g .counted);
         far = omega (arith, g .far, line-ends l);
-        joins = λ m. rw append-assoc (g .joins (line-joins l m));
+        small = all-small-append front new (g .small) (l .small, tt);
+        stand = rw (src-lines-append front new, append-nil) (spelled-append (g .stand) (l .stands));
         refutes = λ n. g .refutes (line-refutes l n);
         periodsLong = ap length p ∙ simp length-set (g .periodsLong);
         weightsLong = ap length w ∙ simp length-set (g .weightsLong);
-        storesPeriods = λ h. p ∙ rw (g .storesPeriods (omega arith), periods-append) (store-next (periodsOf (g .entries)) periods count period (periods-length (g .entries) ∙ g .counted) (omega arith));
-        storesWeights = λ h. w ∙ rw (g .storesWeights (omega arith), weights-append) (store-next (weightsOf (g .entries)) weights count weight (weights-length (g .entries) ∙ g .counted) (omega arith));
+        storesPeriods = p ∙ rw (g .storesPeriods, periods-append front new, ← g .counted, ← periods-length front) (stored-more (periodsOf front) periods period);
+        storesWeights = w ∙ rw (g .storesWeights, weights-append front new, ← g .counted, ← weights-length front) (stored-more (weightsOf front) weights weight);
       }
 
   pub listing-ends : length text ≤ next → LinesListed text at count periods weights periods′ weights′
-  unfolding srcLines
   listing-ends h =
       record {
         entries = g .entries;
-        lines = rw append-nil at (g .joins {more = []} (record { small = tt; is = drop-of-length-le text h }));
+        lines = record { small = g .small; is = g .stand .is ∙ rw (drop-of-length-le text h, append-nil) };
         counted = g .counted;
+        storesPeriods = g .storesPeriods;
+        storesWeights = g .storesWeights;
+      }
+
+  -- the text goes on, and not with a line
+  pub listing-fails : next < length text → NoLine text next srcWord 2 → LinesFail text at periods weights periods′ weights′
+  listing-fails h n =
+      record {
+        none = g .refutes (no-line h n);
+        entries = g .entries;
+        next = next;
+        small = g .small;
+        stand = g .stand;
+        ends = n;
         storesPeriods = g .storesPeriods;
         storesWeights = g .storesWeights;
       }

@@ -112,7 +112,7 @@ tests-apart content =
     let lines : _≡_ {A = ℕ} 2 11 → ⊥ = λ e. omega arith in
     let interval : _≡_ {A = ℕ} 3 11 → ⊥ = λ e. omega arith in
     let many : _≡_ {A = ℕ} 12 11 → ⊥ = λ e. omega arith in
-    ((((((((window, window), window), ((lines, lines), lines)), interval), many), many), list 1 (content .entries)))
+    search (window, lines, interval, many, list 1 (content .entries)) depth 12
   where
     list : (k : ℕ) (entries : List Entry) → Apart 11 (listTests 255 k entries)
     list k [] = tt

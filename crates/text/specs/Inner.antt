@@ -57,10 +57,30 @@ pub record Line (text : List ℕ) (at : ℕ) (word numbers : List ℕ) (next : �
 pub record NoLine (text : List ℕ) (at : ℕ) (word : List ℕ) (count : ℕ) : Type 0 where
   pub none : (numbers rest : List ℕ) → length numbers ≡ count → Small numbers → drop at text ≡ line word numbers ++ rest → ⊥
 
+-- These numbers stand at `at`, each after a space, up to `next`.
+abbrev pub Numbers : List ℕ → ℕ → List ℕ → ℕ → Type 0
+Numbers text at [] next = next ≡ at
+Numbers text at (v ∷ numbers) next = (end : ℕ) × Field text at v end × Numbers text end numbers next
+
+-- From `at` on the numbers of a line break off: a room for the line has those that stand there, and behind them what it had before.
+pub record BreaksOff (text : List ℕ) (at : ℕ) (room room′ : List ℕ) : Type 0 where
+  pub numbers : List ℕ
+  pub next : ℕ
+  pub stand : Numbers text at numbers next
+  pub fits : length numbers ≤ length room
+  pub ends : length numbers < length room → NoField text next
+  pub stores : room′ ≡ numbers ++ drop (length numbers) room
+
+-- No line with this word and as many numbers as there is room for stands there; of one that breaks off the room has the numbers.
+pub record LineFails (text : List ℕ) (at : ℕ) (word room room′ : List ℕ) : Type 0 where
+  pub none : NoLine text at word (length room)
+  pub unread : NoWord text at word → room′ ≡ room
+  pub read : (start : ℕ) → Spelled text at word start → BreaksOff text start room room′
+
 -- A line with as many numbers as there is room for is looked for; the room has them afterwards.
 abbrev pub LineAt : List ℕ → ℕ → List ℕ → List ℕ → List ℕ → Found → Type 0
 LineAt text at word room room′ (Next next) = Line text at word room′ next
-LineAt text at word room room′ Nothing = NoLine text at word (length room)
+LineAt text at word room room′ Nothing = LineFails text at word room room′
 
 -- A `run` line is looked for where the text begins.
 abbrev pub RunAt : List ℕ → RunLine → Type 0
@@ -77,19 +97,36 @@ pub record Lines (text : List ℕ) (at : ℕ) (entries : List Entry) : Type 0 wh
   pub small : AllSmall entries
   pub is : drop at text ≡ srcLines entries
 
--- From `at` on the text has so many `src` lines and nothing else; a list with room for them all begins with their numbers.
+-- A room after these numbers were stored from its front on, as many as it has room for.
+unfoldable pub storedIn : List ℕ → List ℕ → List ℕ
+storedIn numbers [] = []
+storedIn [] (old ∷ room) = old ∷ room
+storedIn (n ∷ numbers) (old ∷ room) = n ∷ storedIn numbers room
+
+-- From `at` on the text has so many `src` lines and nothing else; the two lists have their numbers.
 pub record LinesListed (text : List ℕ) (at count : ℕ) (periods weights periods′ weights′ : List ℕ) : Type 0 where
   pub entries : List Entry
   pub lines : Lines text at entries
   pub counted : length entries ≡ count
-  pub storesPeriods : count ≤ length periods → periods′ ≡ periodsOf entries ++ drop count periods
-  pub storesWeights : count ≤ length weights → weights′ ≡ weightsOf entries ++ drop count weights
+  pub storesPeriods : periods′ ≡ storedIn (periodsOf entries) periods
+  pub storesWeights : weights′ ≡ storedIn (weightsOf entries) weights
 
 -- The text from `at` on is no `src` lines.
 pub record NoLines (text : List ℕ) (at : ℕ) : Type 0 where
   pub none : (entries : List Entry) → Lines text at entries → ⊥
 
+-- The text from `at` on is no `src` lines: after these, up to `next`, comes something else. The two lists have their numbers.
+pub record LinesFail (text : List ℕ) (at : ℕ) (periods weights periods′ weights′ : List ℕ) : Type 0 where
+  pub none : NoLines text at
+  pub entries : List Entry
+  pub next : ℕ
+  pub small : AllSmall entries
+  pub stand : Spelled text at (srcLines entries) next
+  pub ends : NoLine text next srcWord 2
+  pub storesPeriods : periods′ ≡ storedIn (periodsOf entries) periods
+  pub storesWeights : weights′ ≡ storedIn (weightsOf entries) weights
+
 -- `src` lines are looked for, up to the end.
 abbrev pub SourcesAt : List ℕ → ℕ → List ℕ → List ℕ → List ℕ → List ℕ → SourceLines → Type 0
 SourcesAt text at periods weights periods′ weights′ (Count count) = LinesListed text at count periods weights periods′ weights′
-SourcesAt text at periods weights periods′ weights′ NoSources = NoLines text at
+SourcesAt text at periods weights periods′ weights′ NoSources = LinesFail text at periods weights periods′ weights′

@@ -1,11 +1,12 @@
 -- `report::count_hits` meets its contract: the listing says "done", with the number of all hits. Assumes nothing.
-use mathlib.Core.Path.{_≡_, refl, sym, _∙_}
+use mathlib.Core.Path.{_≡_, refl, sym, ap, _∙_}
 use mathlib.Core.Logic.{⊎-elim}
 use Prim.Native.Nat.{ℕ}
 use native.Mathlib.Omega.{arith}
 use lib.ListN.{length}
 use Rattle.scope.specs.Hit.{hitsFrom}
 use Rattle.hits.specs.declared.Listing.the-variants.{Done}
+use Rattle.report.proofs.Mapped.{zeros-long}
 use Rattle.report.proofs.Sources.{all-listed}
 use borrow.Author.Needs.{needs}
 use Rattle.report.proofs.count_hits.Statement.{statement}
@@ -17,7 +18,8 @@ done : (c : tie.After-list-hits)
     c .list-hits .result ≡ Done (length (hitsFrom (a .run) (a .source) 0))
 done c =
     let start = c .before .before .before in
-    all-listed (start .pre .0) (start .pre .1) refl (omega (arith, start .pre, c .before .before .hit-room .ensures)) (c .list-hits .ensures)
+    let long = ap length (c .before .before .hit-room .ensures) ∙ zeros-long 65536 in
+    all-listed (start .pre .0) (start .pre .1) refl (omega (arith, start .pre)) (c .list-hits .ensures)
 
 hit-room-requires : tie.Need-hit-room-requires
 hit-room-requires c κs = search needs

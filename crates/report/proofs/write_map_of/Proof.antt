@@ -2,12 +2,20 @@
 use mathlib.Core.Path.{_≡_, ap}
 use mathlib.Core.List.{_++_}
 use Rattle.sources.specs.Entry.{entriesOf}
-use Rattle.report.specs.Report.{mapReport, endReport, cellsReport}
+use Rattle.report.specs.Report.{mapReport, endReport, reportedMap, cellsReport}
 use Rattle.report.proofs.Writing.{written-same, fits-same}
 use Rattle.report.proofs.Mapped.{map-is}
 use borrow.Author.Needs.{needs}
 use Rattle.report.proofs.write_map_of.Statement.{statement}
 use Rattle.report.proofs.write_map_of.Tie as tie
+
+-- what the cells hold then
+cells-are : (c : tie.After-add-to-map)
+    → let a = c .before .before .before .before .before .before .args in
+    c .add-to-map .last .1 .1 .1 .0 ≡ reportedMap (a .run) (entriesOf (a .periods .now) (a .weights .now))
+cells-are c =
+    let start = c .before .before .before .before .before .before in
+    map-is (start .pre .0) (start .pre .1 .0) (c .add-to-map .ensures)
 
 -- the lines that are written
 lines-are : (c : tie.After-add-to-map)
@@ -15,9 +23,7 @@ lines-are : (c : tie.After-add-to-map)
     let map = c .add-to-map .last .1 .1 .1 .0 in
     mapReport 0 map ++ endReport map ≡ cellsReport (a .run) (entriesOf (a .periods .now) (a .weights .now))
 unfolding cellsReport
-lines-are c =
-    let start = c .before .before .before .before .before .before in
-    ap (λ m. mapReport 0 m ++ endReport m) (map-is (start .pre .0) (start .pre .1 .0) (c .add-to-map .ensures))
+lines-are c = ap (λ m. mapReport 0 m ++ endReport m) (cells-are c)
 
 add-to-map-requires : tie.Need-add-to-map-requires
 add-to-map-requires c κs = search needs
@@ -35,7 +41,9 @@ same-length-2 : tie.Need-same-length-2
 same-length-2 c = search needs
 
 returns : tie.Need-returns
-returns c = written-same (lines-are (c .before .before .before .before .before .before .before)) (c .before .before .write-cells .ensures)
+returns c =
+    let added = c .before .before .before .before .before .before .before in
+    (written-same (lines-are added) (c .before .before .write-cells .ensures), cells-are added)
 
 pub write-map-of-spec : {M : Type 1} → statement M
 write-map-of-spec =

@@ -76,7 +76,7 @@ same-length : tie.Need-same-length
 same-length c = search needs
 
 returns : tie.Need-returns
-returns c = writing-last (sources-written (c .before .before .before .before .before .before .before .before .before .before)) (c .before .before .before .write-map-of .ensures)
+returns c = writing-last (sources-written (c .before .before .before .before .before .before .before .before .before .before)) (c .before .before .before .write-map-of .ensures .0)
 
 pub write-report-spec : {M : Type 1} → statement M
 write-report-spec =

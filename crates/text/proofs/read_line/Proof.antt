@@ -1,17 +1,18 @@
--- `text::read_line` meets its contract. The loop's invariant: the word and k numbers are passed up to `next`, and the room has the numbers.
+-- `text::read_line` meets its contract. The loop's invariant: the word and k numbers are passed up to `next`, and the room has the numbers
+-- in front of what it had before.
 -- The measure is what is left of the room. Assumes nothing.
 use Prim.Native.Nat.{_-_}
-use mathlib.Core.Path.{refl, subst}
+use mathlib.Core.Path.{subst}
 use native.Mathlib.Omega.{arith}
 use borrow.Author.Needs.{needs}
 use lib.ListN.{length}
 use Rattle.text.specs.Inner.{WordAt, FieldAt}
-use Rattle.text.proofs.Lines.{Passing, no-word, passing-none, passing-more, passing-bad, passing-ends}
+use Rattle.text.proofs.Lines.{Passing, line-unread, passing-none, passing-more, passing-bad, passing-ends}
 use Rattle.text.proofs.read_line.Statement.{statement}
 use Rattle.text.proofs.read_line.Tie as tie
 
 abbrev Inv-loop : tie.InvT-loop
-Inv-loop text at word room₀ start next₀ k₀ t10 room next k = Passing text at word (length room₀) room k next
+Inv-loop text at word room₀ start next₀ k₀ t10 room next k = Passing text at word room₀ room k next
 
 abbrev μ-loop : tie.MeasureT-loop
 μ-loop text at word room₀ start next₀ k₀ t10 room next k = length room₀ - k
@@ -26,7 +27,7 @@ enum-told : tie.Need-enum-told Inv-loop μ-loop
 enum-told c = search needs
 
 returns : tie.Need-returns Inv-loop μ-loop
-returns c = no-word (subst (WordAt _ _ _) (c .enum-told .given .1) (c .before .before .read-word .ensures)) _
+returns c = line-unread (subst (WordAt _ _ _) (c .enum-told .given .1) (c .before .before .read-word .ensures)) _
 
 loop-holds : tie.Need-loop-holds Inv-loop μ-loop
 loop-holds c = passing-none (subst (WordAt _ _ _) (c .before .start .given .1) (c .before .before .before .read-word .ensures)) _
@@ -76,7 +77,7 @@ same-length-2 c = c .before .before .before .loop .inv .long
 
 returns-3 : tie.Need-returns-3 Inv-loop μ-loop
 returns-3 c =
-    passing-ends (c .before .before .before .loop .inv) _ refl (omega arith) (c .read-word2 .result) (c .read-word2 .ensures)
+    passing-ends (c .before .before .before .loop .inv) (omega arith) (c .read-word2 .result) (c .read-word2 .ensures)
 
 pub read-line-spec : {M : Type 1} → statement M
 read-line-spec =

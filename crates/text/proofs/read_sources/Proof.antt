@@ -8,7 +8,7 @@ use borrow.Author.Needs.{needs}
 use lib.ListN.{length}
 use Rattle.text.specs.Form.{srcWord}
 use Rattle.text.specs.Inner.{Line, SourceAt}
-use Rattle.text.proofs.Listing.{Listing, listing-none, listing-more, listing-ends, line-ends, no-line}
+use Rattle.text.proofs.Listing.{Listing, listing-none, listing-more, listing-ends, listing-fails, line-ends}
 use Rattle.text.proofs.read_sources.Statement.{statement}
 use Rattle.text.proofs.read_sources.Tie as tie
 
@@ -45,8 +45,8 @@ same-length-2 c = c .before .before .before .before .loop .inv .weightsLong
 
 returns : tie.Need-returns Inv-loop μ-loop
 returns c =
-    c .before .before .before .before .loop .inv .refutes
-    (no-line (omega arith) (subst (SourceAt _ _) (c .enum-told .given .1) (c .before .before .read-source .ensures)))
+    listing-fails (c .before .before .before .before .loop .inv) (omega arith)
+    (subst (SourceAt _ _) (c .enum-told .given .1) (c .before .before .read-source .ensures))
 
 put-requires : tie.Need-put-requires Inv-loop μ-loop
 put-requires c κs = search needs

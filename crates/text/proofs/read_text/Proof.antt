@@ -121,7 +121,7 @@ returns-3 : tie.Need-returns-3
 returns-3 c =
     let r = c .before .before .before .before .before in
     refuses-form
-    (no-sources (run-read (r .before .before .before)) (subst (SourcesAt _ _ _ _ _ _) (c .before .enum-told2 .given .1) (r .read-sources .ensures)))
+    (no-sources (run-read (r .before .before .before)) (subst (SourcesAt _ _ _ _ _ _) (c .before .enum-told2 .given .1) (r .read-sources .ensures) .none))
     (c .refuse3 .ensures)
 
 judge-run-requires : tie.Need-judge-run-requires
