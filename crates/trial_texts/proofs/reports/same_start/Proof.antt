@@ -1,0 +1,54 @@
+-- `trial_texts::reports::same_start` is safe and ends. Nothing has to hold from turn to turn; the measure is the number of turns left.
+use Prim.Native.Nat.{_-_}
+use borrow.Author.Needs.{needs}
+use Rattle.trial_texts.proofs.reports.same_start.Statement.{statement}
+use Rattle.trial_texts.proofs.reports.same_start.Tie as tie
+
+abbrev Inv-loop : tie.InvT-loop
+Inv-loop a b length k₀ k = Unit {0}
+
+abbrev μ-loop : tie.MeasureT-loop
+μ-loop a b length k₀ k = length - k
+
+loop-holds : tie.Need-loop-holds Inv-loop μ-loop
+loop-holds c = search needs
+
+byte-at-requires : tie.Need-byte-at-requires Inv-loop μ-loop
+byte-at-requires c κs = search needs
+
+byte-at-requires-2 : tie.Need-byte-at-requires-2 Inv-loop μ-loop
+byte-at-requires-2 c κs = search needs
+
+returns : tie.Need-returns Inv-loop μ-loop
+returns c = search needs
+
+add-k : tie.Need-add-k Inv-loop μ-loop
+add-k c = search needs
+
+loop-less : tie.Need-loop-less Inv-loop μ-loop
+loop-less c = search needs
+
+loop-again : tie.Need-loop-again Inv-loop μ-loop
+loop-again c = search needs
+
+returns-2 : tie.Need-returns-2 Inv-loop μ-loop
+returns-2 c = search needs
+
+returns-3 : tie.Need-returns-3 Inv-loop μ-loop
+returns-3 c = search needs
+
+pub same-start-spec : {M : Type 1} → statement M
+same-start-spec =
+    tie.close
+    (tie.spec
+    Inv-loop
+    μ-loop
+    loop-holds
+    byte-at-requires
+    byte-at-requires-2
+    returns
+    add-k
+    loop-less
+    loop-again
+    returns-2
+    returns-3)
