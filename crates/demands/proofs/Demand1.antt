@@ -41,10 +41,10 @@ use Rattle.text.proofs.Lines.{line-split}
 use Rattle.text.proofs.Unique.{spells-unique}
 use Rattle.report.specs.declared.Output.{Output}
 use Rattle.report.specs.Report.{refusedWord, runReport, wholeReport, printed, reportOf, ReportPromise}
-use Rattle.demands.specs.Table.{_given_, Says, BadPeriod, BadWeight, AtFault, vectorsTable, firstHitTable, listingTable, sourcesTable, mapTable, savingTable, readingTable, contentTable, SaysOfText}
+use Rattle.demands.specs.Table.{_given_, Says, BadPeriod, BadWeight, AtFault, vectorsTable, firstHitTable, listingTable, sourcesTable, mapTable, savingTable, readingTable, textTable, SaysOfText}
 use Rattle.demands.specs.Texts.{printedBy}
 use Rattle.demands.proofs.Rendered.{exactly, keeps}
-use Rattle.demands.proofs.Rows.{vectors-rows, first-hit-rows, listing-rows, map-rows, saving-rows, reading-rows, content-rows}
+use Rattle.demands.proofs.Rows.{vectors-rows, first-hit-rows, listing-rows, map-rows, saving-rows, reading-rows, text-rows}
 
 -- ---- vectors
 
@@ -118,12 +118,12 @@ reply-refused text none r n = (λ k. inl (cc, r), back)
     back (inr k) = absurd (r (k .0) (k .1))
 reply-refused text (some content) r n = (λ k. inr (content, r, told .0 k), back)
   where
-    told : (replyTo (some content) ≡ refused n) ↔ Says (contentTable content) n
-    told = exactly (content-rows content) (content .run) (replyTo (some content)) refl n
+    told : (replyTo (some content) ≡ refused n) ↔ Says (textTable content) n
+    told = exactly (text-rows content) (content .run) (replyTo (some content)) refl n
 
     back : SaysOfText text n → replyTo (some content) ≡ refused n
     back (inl k) = absurd (k .1 content r)
-    back (inr k) = told .1 (subst (λ c. Says (contentTable c) n) (spells-unique (k .1) r) (k .2))
+    back (inr k) = told .1 (subst (λ c. Says (textTable c) n) (spells-unique (k .1) r) (k .2))
 
 module _ (text : List ℕ) (input : Input) (h : TextPromise text input) where
   -- A reply to a text reads "refused n" exactly when its table says n: 11 exactly when the text has not the form, else what the
@@ -144,7 +144,7 @@ module _ (text : List ℕ) (input : Input) (h : TextPromise text input) where
     where
       go : (o : Option Content) → saysText (input .answer) ≡ replyTo o → handed o ≡ []
       go none e = refl
-      go (some content) e = keeps (content-rows content) (content .run) (saysText (input .answer)) e [] (content .entries) (handed (some content)) refl n k
+      go (some content) e = keeps (text-rows content) (content .run) (saysText (input .answer)) e [] (content .entries) (handed (some content)) refl n k
 
       refuses : (answer : Answer) → saysText answer ≡ refused n → answer ≡ Refused n
       refuses (Read run) e = cc

@@ -23,7 +23,7 @@ use Rattle.saved.specs.Block.{fourAt, checkOf, contents, allZero, blockTests}
 use Rattle.saved.specs.File.{blockAt, runOf, blocksFor, fileLength, savingTests, headingTests, cellBlocksTests, fileTests, readingTests}
 use Rattle.text.specs.Form.{Content}
 use Rattle.text.specs.Promise.{textTests}
-use Rattle.demands.specs.Table.{_given_, BadWindow, BadLines, BadPeriod, BadWeight, NotZero, BadCheck, BadHeading, runTable, vectorsTable, firstHitTable, listingTable, sourcesTable, mapTable, savingTable, blocksTable, readingTable, contentTable}
+use Rattle.demands.specs.Table.{_given_, BadWindow, BadLines, BadPeriod, BadWeight, NotZero, BadCheck, BadHeading, runTable, vectorsTable, firstHitTable, listingTable, sourcesTable, mapTable, savingTable, blocksTable, readingTable, textTable}
 use Rattle.demands.proofs.Rendered.{Renders, _next_, one, either, then-two, then-three, no-rows, of-source}
 
 -- ---- the tests of numbers
@@ -172,8 +172,8 @@ reading-rows file map =
     one (unequal (length map) cells)
 
 -- "Text: 11, 1, 2, 3, 12, then each source 4 before 7", after 11
-pub content-rows : (content : Content) → Renders (textTests content) (contentTable content)
+pub text-rows : (content : Content) → Renders (textTests content) (textTable content)
 unfolding textTests number
-content-rows content =
+text-rows content =
     then-two (run-rows (content .run) next either (one (below 64 (length (content .entries)))) (one (below 65536 (cellsOf (content .run))))) next
     sources-rows 1 (content .entries)

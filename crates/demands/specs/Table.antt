@@ -143,8 +143,8 @@ readingTable file map =
     9 given (length map ≢ cellsOf (runOf file)) ∷ []
 
 -- "Text: 11, 1, 2, 3, 12, then each source 4 before 7": what follows 11, of what the text says.
-abbrev pub contentTable : Content → List Row
-contentTable content =
+abbrev pub textTable : Content → List Row
+textTable content =
     runTable (content .run) ++
     12 given ((64 < length (content .entries)) ⊎ (65536 < cellsOf (content .run))) ∷
     sourcesTable (content .entries)
@@ -155,4 +155,4 @@ NotOfForm text = (content : Content) → Spells text content → ⊥
 
 -- The table of a text says n: 11 if it has not the form, else what the table of its content says.
 abbrev pub SaysOfText : List ℕ → ℕ → Type 0
-SaysOfText text n = ((11 ≡ n) × NotOfForm text) ⊎ ((content : Content) × Spells text content × Says (contentTable content) n)
+SaysOfText text n = ((11 ≡ n) × NotOfForm text) ⊎ ((content : Content) × Spells text content × Says (textTable content) n)

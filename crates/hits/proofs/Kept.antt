@@ -16,7 +16,7 @@ use Rattle.scope.proofs.Hits.{hits-end, hits-at, hits-over}
 use Rattle.hits.specs.declared.Listing.the-variants.{Done, More}
 use Rattle.hits.specs.Promise.{listed, written}
 use Rattle.hits.specs.Search.{FirstFrom}
-use Rattle.hits.specs.List.{Lists}
+use Rattle.hits.specs.List.{ListsFrom}
 use Rattle.hits.proofs.Lists.{hits-same}
 
 pub record Kept (run : Run) (source : Source) (start : ℕ) (before room : List ℕ) (n x : ℕ) : Type 0 where
@@ -55,7 +55,7 @@ module _ {run : Run} {source : Source} {start : ℕ} where
   }
 
   -- the room is full, and x is hit
-  pub kept-more : {before room : List ℕ} {n x : ℕ} → n ≡ length room → x < cellsOf run → isHit run source x ≡ true → Kept run source start before room n x → Lists run source start before (More n (record { 0 = x })) room
+  pub kept-more : {before room : List ℕ} {n x : ℕ} → n ≡ length room → x < cellsOf run → isHit run source x ≡ true → Kept run source start before room n x → ListsFrom run source start before (More n (record { 0 = x })) room
   unfolding listed written
   kept-more {before} {room} {n} {x} e in′ hit k =
       let rest = hitsFrom run source (suc x) in
@@ -70,7 +70,7 @@ module _ {run : Run} {source : Source} {start : ℕ} where
       }
 
   -- no hit is left
-  pub kept-done : {before room : List ℕ} {n x : ℕ} → cellsOf run ≤ x → Kept run source start before room n x → Lists run source start before (Done n) room
+  pub kept-done : {before room : List ℕ} {n x : ℕ} → cellsOf run ≤ x → Kept run source start before room n x → ListsFrom run source start before (Done n) room
   unfolding listed written
   kept-done {before} {room} {n} {x} out k =
       let all : hitsFrom run source start ≡ take n room = k .hits ∙ rw (hits-end run source x out, append-nil (take n room)) in

@@ -22,7 +22,7 @@ use Rattle.scope.specs.Hit.{isHit}
 use Rattle.hits.specs.declared.walk.Place.{Place}
 use Rattle.hits.specs.declared.walk.Walk.{Walk}
 use Rattle.hits.specs.declared.Listing.the-variants.{Done, More}
-use Rattle.hits.specs.List.{Lists}
+use Rattle.hits.specs.List.{ListsFrom}
 use Rattle.hits.specs.Walk.{Leads, Stands, Walking, NextLine}
 use Rattle.hits.proofs.Cells.{Points, rows-le, point-hit, hit-point, missed, own-line, inside-cells}
 use Rattle.hits.proofs.Walks.{shifted-le, shifted-lt, apart-by, fits-at}
@@ -208,10 +208,10 @@ module _ {run : Run} {source : Source} {start all period end : ℕ} {walk : Walk
   filled i in′ e = record { kept = kept-here fixed i in′; full = λ l. e; hit = λ l. cell-hit fixed i in′ }
 
 module _ {run : Run} {source : Source} {start : ℕ} {before room : List ℕ} {n next : ℕ} (ended : Ended run source start before room n next) where
-  pub says-more : next < cellsOf run → Lists run source start before (More n (record { 0 = next })) room
+  pub says-more : next < cellsOf run → ListsFrom run source start before (More n (record { 0 = next })) room
   says-more h = kept-more (ended .full h) h (ended .hit h) (ended .kept)
 
-  pub says-done : cellsOf run ≤ next → Lists run source start before (Done n) room
+  pub says-done : cellsOf run ≤ next → ListsFrom run source start before (Done n) room
   says-done h = kept-done h (ended .kept)
 
 -- the walk gets on: from a hit of a line to one of a later line

@@ -10,6 +10,6 @@ use Rattle.hits.specs.declared.Listing.{Listing}
 use Rattle.hits.specs.Promise.{saysListing, listed, written}
 
 -- The listing from a start within the run, as its promise has it where nothing is refused.
-pub record Lists (run : Run) (source : Source) (start : ℕ) (room : List ℕ) (r : Listing) (after : List ℕ) : Type 0 where
+pub record ListsFrom (run : Run) (source : Source) (start : ℕ) (room : List ℕ) (r : Listing) (after : List ℕ) : Type 0 where
   pub says : saysListing r ≡ answered (listed (hitsFrom run source start) room)
   pub stores : after ≡ written (hitsFrom run source start) room

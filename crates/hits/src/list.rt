@@ -7,14 +7,14 @@ use scope::RunCell;
 use scope::Source;
 ghost use Prim.Native.Nat.{_<_};
 ghost use Rattle.scope.specs.Run.{Valid, ValidSource, cellsOf};
-ghost use Rattle.hits.specs.List.{Lists};
+ghost use Rattle.hits.specs.List.{ListsFrom};
 
 // Inner step. The hits from `start` on, written until there are no more or the room is full: line by line, and on a line at
 // offsets that lie a period apart. `at` is the first hit of the line, from which the walk goes on to the next line that has
 // one; `cell` and `offset` are those of the hit that is written next.
 pub fn write_hits(run: Run, source: Source, start: u64, room: &mut [u64]) -> Listing
     requires { ⌜ Valid run × ValidSource source × (start < cellsOf run) ⌝ }
-    ensures { λ r. ⌜ Lists run source start (now (room .entry)) r (now (room .exit)) ⌝ }
+    ensures { λ r. ⌜ ListsFrom run source start (now (room .entry)) r (now (room .exit)) ⌝ }
 {
     let all = scope::cells(run);
     let window = run.window;

@@ -12,7 +12,7 @@ use Rattle.scope.specs.declared.Run.{Run}
 use Rattle.scope.specs.Refusal.{Complaint, Tests, _when_, _andThen_, ofSource, nothing, orElse, placed, complaint, number, windowTests, lineTests, runTests, periodTests, weightTests}
 use Rattle.scope.specs.Reply.{refused, answered, reply, stored}
 use Rattle.scope.proofs.Judged.{Passes, grant-reply, grant-stored}
-use Rattle.sources.specs.Entry.{Entry, entriesOf, entryTests, listTests}
+use Rattle.sources.specs.Entry.{Entry, entryTests, listTests}
 use Rattle.sources.specs.Lists.{periodsOf, weightsOf}
 use Rattle.sources.proofs.Entries.{entry, entries-of, periods-length, weights-length}
 use Rattle.text.specs.Form.{line, runWord, srcWord, runNumbers, srcNumbers, srcLines, textOf, Content, Spells}
