@@ -20,7 +20,7 @@ use Rattle.scope.proofs.Hits.{origin, hit-on, miss-on}
 use Rattle.hits.specs.declared.search.Point.{Point}
 use Rattle.hits.specs.declared.search.Stage.{Stage}
 use Rattle.hits.specs.declared.search.Found.the-variants.{Nothing}
-use Rattle.hits.specs.Search.{Divides, Seeking, FirstFrom, Reaches, Sought}
+use Rattle.hits.specs.Search.{Divides, Seeking, FirstFrom, Enters, Sought}
 
 -- ---- cells by lines and distances
 
@@ -128,7 +128,7 @@ module _ {run : Run} (v : Valid run) (source : Source) where
     pub line-none : (j - run .first) * run .window ≤ cellsOf run → Sought (source .period) (run .interval % source .period) (run .window) (run .last) (record { distance = d; line = j }) Nothing → FirstFrom run source ((j - run .first) * run .window) (cellsOf run)
     line-none le s = first-none le (λ k e h le′ in′ o′. let w = seen k e h le′ o′ in omega (arith, w .0, s (run .first + k - j) e h (w .1)))
 
-    pub line-found : {to : Point} → Reaches (source .period) (run .interval % source .period) (run .window) (run .last) (record { distance = d; line = j }) to → FirstFrom run source ((j - run .first) * run .window) ((to .line - run .first) * run .window + to .distance)
+    pub line-found : {to : Point} → Enters (source .period) (run .interval % source .period) (run .window) (run .last) (record { distance = d; line = j }) to → FirstFrom run source ((j - run .first) * run .window) ((to .line - run .first) * run .window + to .distance)
     line-found {to} s =
         let n = s .nearer in
         let m = s .moves in
@@ -194,7 +194,7 @@ module _ {run : Run} (v : Valid run) {source : Source} (s : ValidSource source) 
   distance-point = rw is (on-line (source .period) (run .interval) (origin run source) line)
 
   -- what the search found
-  pub sought-cell : {to : Point} → Reaches (source .period) (run .interval % source .period) (run .window) (run .last) (record { distance = d; line = line }) to → FirstFrom run source ((line - run .first) * run .window) ((to .line - run .first) * run .window + to .distance)
+  pub sought-cell : {to : Point} → Enters (source .period) (run .interval % source .period) (run .window) (run .last) (record { distance = d; line = line }) to → FirstFrom run source ((line - run .first) * run .window) ((to .line - run .first) * run .window + to .distance)
   sought-cell h = line-found v source distance-point begun distance-low h
 
   pub sought-none : line ≤ run .last + 1 → Sought (source .period) (run .interval % source .period) (run .window) (run .last) (record { distance = d; line = line }) Nothing → FirstFrom run source ((line - run .first) * run .window) (cellsOf run)

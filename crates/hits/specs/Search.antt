@@ -56,7 +56,7 @@ pub record Seeking (stage : Stage) (at : Point) (window last : ℕ) : Type 0 whe
   pub short : last ≤ 16777216
 
 -- The point `to` is the first within the window, and not past the last line.
-pub record Reaches (p r window last : ℕ) (at to : Point) : Type 0 where
+pub record Enters (p r window last : ℕ) (at to : Point) : Type 0 where
   pub lines : ℕ
   pub first : First p r window (at .distance) lines (to .distance)
   pub moves : to .line ≡ at .line + lines
@@ -65,7 +65,7 @@ pub record Reaches (p r window last : ℕ) (at to : Point) : Type 0 where
 
 -- What a search comes to: the first point within the window, or none up to the last line.
 abbrev pub Sought : ℕ → ℕ → ℕ → ℕ → Point → Found → Type 0
-Sought p r window last at (At to) = Reaches p r window last at to
+Sought p r window last at (At to) = Enters p r window last at to
 Sought p r window last at Nothing = (Z f : ℕ) → f < window → Go p r (at .distance) Z f → last < at .line + Z
 
 -- The cell y is the first hit not below x, or the number of cells if there is none.

@@ -41,12 +41,12 @@ fn wider(a: u64, b: u64) -> u64
     if a < b { b } else { a }
 }
 
-// How often a step has to be taken to go further than `room`.
-fn turns_past(room: u64, step: u64) -> u64
-    requires { ⌜ (0 < step) × (room < 2147483648) ⌝ }
-    ensures { λ r. ⌜ Above room step r ⌝ }
+// How often a step has to be taken to go further than a gap.
+fn turns_past(gap: u64, step: u64) -> u64
+    requires { ⌜ (0 < step) × (gap < 2147483648) ⌝ }
+    ensures { λ r. ⌜ Above gap step r ⌝ }
 {
-    room / step + 1
+    gap / step + 1
 }
 
 impl Stage {
@@ -151,12 +151,12 @@ pub fn find_hit(run: Run, source: Source, start: u64) -> u64
 {
     let window = run.window as u64;
     let period = source.period as u64;
-    let row = start / window;
-    let line = run.first as u64 + row;
+    let passed = start / window;
+    let line = run.first as u64 + passed;
     let from = start % window;
-    let place = from + (distance(run, source, line) + (period - from % period)) % period;
-    if place < window {
-        return start - from + place;
+    let to = from + (distance(run, source, line) + (period - from % period)) % period;
+    if to < window {
+        return start - from + to;
     }
     find_from_line(run, source, line + 1)
 }

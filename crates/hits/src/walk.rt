@@ -1,5 +1,5 @@
 // The walk of a source over a run: from the first hit of a line to the first hit of the next line that has one.
-// What it goes by is worked out once; a step is then one or two comparisons and two or four sums.
+// What it goes by is worked out once; a step is then at most two comparisons, and two sums.
 use scope::Run;
 use scope::Source;
 use vectors::Basis;
@@ -91,8 +91,8 @@ fn narrower(a: u32, b: u32) -> u32
 }
 
 // Inner step. The walk of a source over a run. Where the period is less than the window, each line has its first hit within
-// a period from the left edge, so that the vectors are those of a window as wide as the period. A single vector leads
-// neither left nor right, so that the walk never goes by the other.
+// a period from the left edge, so that the vectors are those of a window as wide as the period. A single vector stands
+// for both: its offset is 0, so that the step to the left always stays in the window.
 pub fn plan(run: Run, source: Source) -> Walk
     requires { ⌜ Valid run × ValidSource source ⌝ }
     ensures { λ r. ⌜ Leads run source r ⌝ }

@@ -24,11 +24,11 @@ pub enum Added {
 
 // Maps longer than this are gone through in blocks by the sources with short periods.
 const LONG: usize = 1048576;
-// So many bytes of the map are in a block.
+// So many bytes of the map are in a block, at most.
 const BLOCK: u32 = 65536;
 // A source with a shorter period comes back to the same bytes of memory so often that blocks pay.
 const SHORT: u32 = 2048;
-// No period is so long.
+// One more than the longest period: below it are all.
 const PERIODS: u32 = 2147483648;
 
 // A cell's new value: its old one and the weight, or 255 if that is more. The test stays within a byte.
@@ -76,7 +76,7 @@ fn add_rows(run: Run, source: Source, weight: u8, map: &mut [u8])
 }
 
 // Adds a source with at most one hit on a line to the map of a run, hit by hit. The vectors are worked out once; from a hit
-// to the next it is then two comparisons and a few sums, however many lines lie between.
+// to the next it is then at most two comparisons, and two sums, however many lines lie between.
 fn add_hits(run: Run, source: Source, weight: u8, map: &mut [u8])
     requires { ⌜ Valid run × ValidSource source × (run .window ≤ source .period) × (length (now map) ≡ cellsOf run) ⌝ }
     ensures { λ _. ⌜ now (map .exit) ≡ added 255 run (record { source = source; weight = weight } ∷ []) (now (map .entry)) ⌝ }

@@ -48,8 +48,8 @@ pub fn check(block: &[u8]) -> u32
     sum
 }
 
-// Inner step. The number that the four bytes from `at` on stand for, the lowest byte first: at most 255 of each place, so that it fits.
-pub fn four_at(bytes: &[u8], at: usize) -> u32
+// The number that the four bytes from `at` on stand for, the lowest byte first: at most 255 of each place, so that it fits.
+fn four_at(bytes: &[u8], at: usize) -> u32
     requires { ⌜ at + 4 ≤ length (now bytes) ⌝ }
     ensures { λ r. ⌜ r ≡ fourAt (now (bytes .entry)) at ⌝ }
 {
@@ -60,8 +60,8 @@ pub fn four_at(bytes: &[u8], at: usize) -> u32
     first + 256 * (second + 256 * (third + 256 * fourth))
 }
 
-// Inner step. Writes a number as four bytes, the lowest first.
-pub fn put_four(room: &mut [u8], number: u32)
+// Writes a number as four bytes, the lowest first.
+fn put_four(room: &mut [u8], number: u32)
     requires { ⌜ length (now room) ≡ 4 ⌝ }
     ensures { λ _. ⌜ now (room .exit) ≡ four number ⌝ }
 {
@@ -71,8 +71,8 @@ pub fn put_four(room: &mut [u8], number: u32)
     room[3] = (number / 256 / 256 / 256 % 256) as u8;
 }
 
-// Inner step. Copies all of `bytes` into a room of their length.
-pub fn copy(bytes: &[u8], room: &mut [u8])
+// Copies all of `bytes` into a room of their length.
+fn copy(bytes: &[u8], room: &mut [u8])
     requires { ⌜ length (now room) ≡ length (now bytes) ⌝ }
     ensures { λ _. ⌜ now (room .exit) ≡ now (bytes .entry) ⌝ }
 {
@@ -83,8 +83,8 @@ pub fn copy(bytes: &[u8], room: &mut [u8])
     }
 }
 
-// Inner step. Makes every byte of a room zero.
-pub fn clear(room: &mut [u8])
+// Makes every byte of a room zero.
+fn clear(room: &mut [u8])
     ensures { λ _. ⌜ now (room .exit) ≡ replicate (length (now (room .entry))) 0 ⌝ }
 {
     let mut i = 0;
@@ -94,8 +94,8 @@ pub fn clear(room: &mut [u8])
     }
 }
 
-// Inner step. Whether every byte from `from` on is zero; of no bytes that is so.
-pub fn zeros_from(bytes: &[u8], from: usize) -> bool
+// Whether every byte from `from` on is zero; of no bytes that is so.
+fn zeros_from(bytes: &[u8], from: usize) -> bool
     ensures { λ r. ⌜ r ≡ allZero (drop from (now (bytes .entry))) ⌝ }
 {
     let mut i = from;
@@ -108,9 +108,9 @@ pub fn zeros_from(bytes: &[u8], from: usize) -> bool
     true
 }
 
-// Inner step. Writes the block with this number that holds these bytes, filled up with zeros. The parts follow each other from the front;
+// Writes the block with this number that holds these bytes, filled up with zeros. The parts follow each other from the front;
 // the check comes last, over what then stands there, so that nothing the room held before counts.
-pub fn write_block(number: u32, bytes: &[u8], block: &mut [u8])
+fn write_block(number: u32, bytes: &[u8], block: &mut [u8])
     requires { ⌜ (length (now bytes) ≤ 504) × (length (now block) ≡ 512) ⌝ }
     ensures { λ _. ⌜ now (block .exit) ≡ blockOf number (now (bytes .entry)) ⌝ }
 {
@@ -122,9 +122,9 @@ pub fn write_block(number: u32, bytes: &[u8], block: &mut [u8])
     put_four(&mut block[508..512], sum);
 }
 
-// Inner step. What 01's table says of a block that is to have this number and to hold `size` bytes: 14 for the number or the check,
+// What 01's table says of a block that is to have this number and to hold `size` bytes: 14 for the number or the check,
 // then 15 for the filling behind those bytes. A full block has none.
-pub fn judge_block(number: u32, size: usize, block: &[u8]) -> Verdict
+fn judge_block(number: u32, size: usize, block: &[u8]) -> Verdict
     requires { ⌜ length (now block) ≡ 512 ⌝ }
     ensures { λ r. ⌜ r ≡ verdict (complaint (blockTests number size (now (block .entry)))) ⌝ }
 {
@@ -155,8 +155,8 @@ pub fn file_length(size: u64) -> u64
     512 * (1 + (size + 503) / 504)
 }
 
-// Inner step. Writes block 0: the version, three spare bytes and the run's four numbers, as the twenty bytes that it holds.
-pub fn write_heading(run: Run, block: &mut [u8])
+// Writes block 0: the version, three spare bytes and the run's four numbers, as the twenty bytes that it holds.
+fn write_heading(run: Run, block: &mut [u8])
     requires { ⌜ length (now block) ≡ 512 ⌝ }
     ensures { λ _. ⌜ now (block .exit) ≡ blockOf 0 (heading run) ⌝ }
 {
@@ -207,8 +207,8 @@ pub fn save(run: Run, map: &[u8], file: &mut [u8]) -> Saved
     Saved::Done
 }
 
-// Inner step. What 01's table says of block 0: as of every block, then its version and its spare bytes.
-pub fn judge_heading(block: &[u8]) -> Verdict
+// What 01's table says of block 0: as of every block, then its version and its spare bytes.
+fn judge_heading(block: &[u8]) -> Verdict
     requires { ⌜ length (now block) ≡ 512 ⌝ }
     ensures { λ r. ⌜ r ≡ verdict (complaint (headingTests (now (block .entry)))) ⌝ }
 {
@@ -224,8 +224,8 @@ pub fn judge_heading(block: &[u8]) -> Verdict
     Verdict::Fine
 }
 
-// Inner step. What 01's table says of the blocks after block 0, in order, if they are to hold `size` bytes of cells.
-pub fn judge_cells(size: usize, file: &[u8]) -> Verdict
+// What 01's table says of the blocks after block 0, in order, if they are to hold `size` bytes of cells.
+fn judge_cells(size: usize, file: &[u8]) -> Verdict
     requires { ⌜ (size < 2 ^ 37) × (length (now file) ≡ fileLength size) ⌝ }
     ensures { λ r. ⌜ r ≡ verdict (complaint (cellBlocksTests size (now (file .entry)) (blocksFor size))) ⌝ }
 {
@@ -258,9 +258,9 @@ pub fn run_of(file: &[u8]) -> Run
     }
 }
 
-// Inner step. What 01's table says of a file: its run, or the number of the first test that it fails. Only a count of blocks that fits
+// What 01's table says of a file: its run, or the number of the first test that it fails. Only a count of blocks that fits
 // the run makes sure that each block is there to be judged.
-pub fn judge_file(file: &[u8]) -> Loaded
+fn judge_file(file: &[u8]) -> Loaded
     ensures { λ r. ⌜ saysReading r ≡ reply (complaint (fileTests (now (file .entry)))) (runOf (now (file .entry))) ⌝ }
 {
     if file.len() % 512 != 0 {
@@ -286,8 +286,8 @@ pub fn judge_file(file: &[u8]) -> Loaded
     Loaded::Of(run)
 }
 
-// Inner step. Fills a map with the cells that the blocks after block 0 hold: 504 a block, of the last as many as are left.
-pub fn load(file: &[u8], map: &mut [u8])
+// Fills a map with the cells that the blocks after block 0 hold: 504 a block, of the last as many as are left.
+fn load(file: &[u8], map: &mut [u8])
     requires { ⌜ (length (now map) < 2 ^ 37) × (length (now file) ≡ fileLength (length (now map))) ⌝ }
     ensures { λ _. ⌜ now (map .exit) ≡ take (length (now (map .entry))) (bytesIn (now (file .entry)) (blocksFor (length (now (map .entry))))) ⌝ }
 {

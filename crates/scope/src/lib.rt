@@ -1,7 +1,7 @@
 // Runs, cells, sources and their limits: document 01's words as types, and the tests that every call begins with.
 // Every function is proved. No function here is a public operation: each is an inner step of the crates above.
 ghost use mathlib.Core.Path.{_≡_};
-ghost use Prim.Native.Nat.{_+_, _≤_};
+ghost use Prim.Native.Nat.{_+_, _-_, _≤_};
 ghost use Rattle.scope.specs.Run.{Valid, IsBlock, cellsOf, shiftOf};
 ghost use Rattle.scope.specs.Refusal.{complaint, windowTests, lineTests, runTests, periodTests, sourceTests};
 ghost use Rattle.scope.specs.Reply.{verdict};
@@ -49,8 +49,8 @@ pub fn judge_window(window: u32) -> Verdict
     Verdict::Fine
 }
 
-// Inner step. What 01's table says of a first and a last line.
-pub fn judge_lines(first: u32, last: u32) -> Verdict
+// What 01's table says of a first and a last line.
+fn judge_lines(first: u32, last: u32) -> Verdict
     ensures { λ r. ⌜ r ≡ verdict (complaint (lineTests first last)) ⌝ }
 {
     if first < 1 {
@@ -109,8 +109,8 @@ pub fn cells(run: Run) -> u64
     run.window as u64 * (run.last - run.first + 1) as u64
 }
 
-// Inner step. "(block's first line - run's first line)·I": what turns a block's cell number into the run's.
-pub fn block_shift(run: Run, block: Run) -> u64
+// "(block's first line - run's first line)·I": what turns a block's cell number into the run's.
+fn block_shift(run: Run, block: Run) -> u64
     requires { ⌜ Valid run × IsBlock run block × Valid block ⌝ }
     ensures { λ r. ⌜ r ≡ shiftOf run block ⌝ }
 {
@@ -124,5 +124,15 @@ impl BlockCell {
         ensures { λ r. ⌜ r .0 ≡ self .0 + shiftOf run block ⌝ }
     {
         RunCell(self.0 + block_shift(run, block))
+    }
+}
+
+impl RunCell {
+    // Inner step. The number that a cell of the run has in a block that does not start after it: the block's shift is taken away.
+    pub fn in_block(self, run: Run, block: Run) -> BlockCell
+        requires { ⌜ Valid run × IsBlock run block × Valid block × shiftOf run block ≤ self .0 ⌝ }
+        ensures { λ r. ⌜ r .0 ≡ self .0 - shiftOf run block ⌝ }
+    {
+        BlockCell(self.0 - block_shift(run, block))
     }
 }

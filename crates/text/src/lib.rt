@@ -107,8 +107,8 @@ fn read_line(text: &[u8], at: usize, word: &[u8], room: &mut [u32]) -> Found
     read_word(text, next, b"\n")
 }
 
-// Inner step. The `run` line that a text begins with.
-pub fn read_run(text: &[u8]) -> RunLine
+// The `run` line that a text begins with.
+fn read_run(text: &[u8]) -> RunLine
     ensures { λ r. ⌜ RunAt (now (text .entry)) r ⌝ }
 {
     let mut room = [0u32; 4];
@@ -124,8 +124,8 @@ pub fn read_run(text: &[u8]) -> RunLine
     RunLine::Runs(run, next)
 }
 
-// Inner step. The `src` line at a place of a text.
-pub fn read_source(text: &[u8], at: usize) -> SourceLine
+// The `src` line at a place of a text.
+fn read_source(text: &[u8], at: usize) -> SourceLine
     ensures { λ r. ⌜ SourceAt (now (text .entry)) at r ⌝ }
 {
     let mut room = [0u32; 2];
@@ -144,8 +144,8 @@ fn put(room: &mut [u32], at: usize, number: u32)
     }
 }
 
-// Inner step. The `src` lines from `at` up to the end of a text: all are read, and as many are stored as there is room for.
-pub fn read_sources(text: &[u8], at: usize, periods: &mut [u32], weights: &mut [u32]) -> SourceLines
+// The `src` lines from `at` up to the end of a text: all are read, and as many are stored as there is room for.
+fn read_sources(text: &[u8], at: usize, periods: &mut [u32], weights: &mut [u32]) -> SourceLines
     ensures { λ r. ⌜ SourcesAt (now (text .entry)) at (now (periods .entry)) (now (weights .entry)) (now (periods .exit)) (now (weights .exit)) r ⌝ }
 {
     let mut next = at;

@@ -16,7 +16,7 @@ pub struct Vector {
     pub line: u64,
 }
 
-// What the walk goes by.
+// The pair, or the single vector, of what passed the tests.
 pub enum Basis {
     // (α, β), which leads left, and (γ, δ), which leads right.
     Two(Vector, Vector),
@@ -59,7 +59,7 @@ fn add_times(x: i64, times: i64, y: i64) -> i64
     x + times * y
 }
 
-// `before` plus `last` so many times, where that goes no further than `before` reaches.
+// `before` plus `last` so many times, where so often `last` leads no further than `before`, to the other side.
 fn plus_times(before: Vector, times: u64, last: Vector) -> Vector
     requires { ⌜ Reaches before times last ⌝ }
     ensures { λ v. ⌜ v ≡ plusTimes before times last ⌝ }
@@ -100,7 +100,7 @@ fn divide(i: &mut i64, j: &mut u64, k: &mut i64, l: &mut u64, window: u64)
     );
     *i = offset;
     *j = line;
-    let offset = after.offset;
+    let offset = after.offset; // what is stored as signed has to be a local
     *k = offset;
     *l = after.line;
     divide(i, j, k, l, window);

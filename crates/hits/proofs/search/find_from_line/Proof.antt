@@ -4,13 +4,13 @@ use Prim.Native.Nat.{_+_, _-_, _*_, _%_}
 use native.Mathlib.Omega.{arith}
 use mathlib.Core.Path.{subst}
 use Rattle.scope.proofs.Limits.{cells-few}
-use Rattle.hits.specs.Search.{Reaches, FirstFrom, Sought}
+use Rattle.hits.specs.Search.{Enters, FirstFrom, Sought}
 use Rattle.hits.proofs.Cells.{distance-low, begin-divides, begin-seeking, sought-cell, sought-none}
 use Rattle.hits.proofs.search.find_from_line.Statement.{statement}
 use Rattle.hits.proofs.search.find_from_line.Tie as tie
 
 -- the point that the search found, and its cell
-reached : (c : tie.After-to) → let a = c .before .before .before .before .before .before .before .before .args in Reaches (a .source .period) (a .run .interval % a .source .period) (a .run .window) (a .run .last) (record { distance = c .before .before .before .before .distance .result; line = a .line }) (c .to .given .0 .0)
+reached : (c : tie.After-to) → let a = c .before .before .before .before .before .before .before .before .args in Enters (a .source .period) (a .run .interval % a .source .period) (a .run .window) (a .run .last) (record { distance = c .before .before .before .before .distance .result; line = a .line }) (c .to .given .0 .0)
 reached c =
     let k = c .before .before in
     let s = k .before .before .before .before .before .before in

@@ -21,8 +21,8 @@ cast-period c = search needs
 cast-line : tie.Need-cast-line
 cast-line c = search needs
 
-div-row : tie.Need-div-row
-div-row c = search needs
+div-passed : tie.Need-div-passed
+div-passed c = search needs
 
 add-line : tie.Need-add-line
 add-line c = let l = line-in c in record { fits = omega arith }
@@ -33,23 +33,23 @@ rem-from c = search needs
 distance-requires : tie.Need-distance-requires
 distance-requires c κs = let s = c .before .before .before in let l = line-in c in (s .pre .0, s .pre .1, omega (arith, s .pre .0 .ends))
 
-rem-place : tie.Need-rem-place
-rem-place c = search needs
+rem-to : tie.Need-rem-to
+rem-to c = search needs
 
-sub-place : tie.Need-sub-place
-sub-place c = let s = c .before .before .before .before in omega (arith, mod-lt (s .args .start % s .args .run .window) (s .pre .1 .ticks))
+sub-to : tie.Need-sub-to
+sub-to c = let s = c .before .before .before .before in omega (arith, mod-lt (s .args .start % s .args .run .window) (s .pre .1 .ticks))
 
-add-place : tie.Need-add-place
-add-place c =
+add-to : tie.Need-add-to
+add-to c =
     let s = c .before .before .before .before in
     let low = distance-low (s .pre .0) (s .pre .1) (omega arith) (c .distance .ensures) in
     record { fits = omega (arith, s .pre .1 .fits) }
 
-rem-place-2 : tie.Need-rem-place-2
-rem-place-2 c = search needs
+rem-to-2 : tie.Need-rem-to-2
+rem-to-2 c = search needs
 
-add-place-2 : tie.Need-add-place-2
-add-place-2 c =
+add-to-2 : tie.Need-add-to-2
+add-to-2 c =
     let s = c .before .before .before .before in
     let small = mod-lt (c .distance .result + (s .args .source .period - s .args .start % s .args .run .window % s .args .source .period)) (s .pre .1 .ticks) in
     let few = s .pre .0 .narrow in
@@ -91,16 +91,16 @@ find-hit-spec =
     (tie.spec
     cast-window
     cast-period
-    div-row
+    div-passed
     cast-line
     add-line
     rem-from
     distance-requires
-    rem-place
-    sub-place
-    add-place
-    rem-place-2
-    add-place-2
+    rem-to
+    sub-to
+    add-to
+    rem-to-2
+    add-to-2
     sub-result
     add-result
     returns

@@ -10,7 +10,7 @@ div-result : tie.Need-div-result
 div-result c = search needs
 
 add-result : tie.Need-add-result
-add-result c = let h = div-le-self (c .args .room) (c .args .step) in record { fits = omega arith }
+add-result c = let h = div-le-self (c .args .gap) (c .args .step) in record { fits = omega arith }
 
 returns : tie.Need-returns
 returns c = above _ (c .pre .0)
