@@ -1,5 +1,6 @@
 // Measures the library and its peers side by side. Each line of output is: row, unit, what one unit of ours costs in nanoseconds,
-// how many units a call has, then for each peer the peer's time over ours ("-" where it does not take part).
+// what all units of a repetition cost together, how many they are, then for each peer the peer's time over ours ("-" where it
+// does not take part).
 //
 // In a repetition every contender makes the same call, in an order that turns from one repetition to the next, and the interval
 // is another one in every call. What is printed is the median over the repetitions; a ratio is taken within a repetition.
@@ -44,6 +45,7 @@ static double median(double *v, int n) {
 // What the calls of a row use. `units` and `sum` are what the call came to.
 static uint32_t periods[SOURCES], weights[SOURCES];
 static size_t sources;
+static uint32_t period_of[CALLS], remainder_of[CALLS], interval_of[CALLS];
 static uint64_t starts[CALLS];
 static run r;
 static uint8_t *map, *file;
@@ -99,11 +101,21 @@ static double call_map(int who) {
 
 // ---- vectors, first hit, listing: many calls in a row
 
+// What each call is given: another interval every time, and its remainder. Outside the measured time.
+static void prepare(void) {
+    for (uint32_t k = 0; k < CALLS; k++) {
+        period_of[k] = periods[k % sources];
+        interval_of[k] = r.interval + 2 * k;
+        remainder_of[k] = interval_of[k] % period_of[k];
+    }
+}
+
 static double call_vectors(int who) {
     uint64_t total = 0;
+    prepare();
     double began = seconds();
     for (uint32_t k = 0; k < CALLS; k++) {
-        uint32_t p = periods[k % sources], remainder = (r.interval + 2 * k) % p;
+        uint32_t p = period_of[k], remainder = remainder_of[k];
         pair v;
         if (who == OURS) {
             steps_reply s;
@@ -121,10 +133,12 @@ static double call_vectors(int who) {
 static double call_first(int who) {
     uint64_t total = 0, all = cells_of(r);
     run at = r;
+    prepare();
     double began = seconds();
-    for (uint32_t k = 0; k < CALLS; k++, at.interval += 2) {
-        uint32_t p = periods[k % sources];
+    for (uint32_t k = 0; k < CALLS; k++) {
+        uint32_t p = period_of[k];
         uint64_t cell;
+        at.interval = interval_of[k];
         if (who == OURS) {
             first_hit_reply f = zenithgong_first_hit(at.window, at.interval, at.first, at.last, p, starts[k]);
             cell = f.found ? f.cell : all;
@@ -197,7 +211,7 @@ static const char *only = "";
 // Measures a row: 41 repetitions, or as many as fit in four seconds, at least 5. `takes_part` has a + for each contender that does.
 static void measure(const char *row, const char *unit, double (*call)(int), const char *takes_part) {
     if (strncmp(row, only, strlen(only))) return;
-    static double took[WHO][REPETITIONS], ratio[REPETITIONS], each[REPETITIONS], had[REPETITIONS];
+    static double took[WHO][REPETITIONS], ratio[REPETITIONS], each[REPETITIONS], whole[REPETITIONS], had[REPETITIONS];
     int n = 0;
     for (double spent = 0; n < REPETITIONS && (n < 5 || spent < 4); n++) {
         double began = seconds();
@@ -208,7 +222,7 @@ static void measure(const char *row, const char *unit, double (*call)(int), cons
             int who = (k + n) % WHO;
             if (takes_part[who] != '+') continue;
             took[who][n] = call(who);
-            if (who == OURS) had[n] = units, each[n] = took[who][n] / units;
+            if (who == OURS) had[n] = units, whole[n] = took[who][n], each[n] = took[who][n] / units;
             if (who == LIMIT) continue;
             if (seen++ && sum != expected) {
                 fprintf(stderr, "%s: contender %d differs at interval %u\n", row, who, r.interval);
@@ -218,7 +232,7 @@ static void measure(const char *row, const char *unit, double (*call)(int), cons
         }
         spent += seconds() - began;
     }
-    printf("%s\t%s\t%.3f\t%.0f", row, unit, 1e9 * median(each, n), median(had, n));
+    printf("%s\t%s\t%.3f\t%.0f\t%.0f", row, unit, 1e9 * median(each, n), 1e9 * median(whole, n), median(had, n));
     for (int who = NAIVE; who < WHO; who++) {
         for (int k = 0; k < n; k++) ratio[k] = took[who][k] / took[OURS][k];
         if (takes_part[who] == '+')

@@ -1,5 +1,6 @@
 // The exports of the library. An answer of more than 16 bytes comes through a pointer before the other arguments: so the
-// x86-64 convention has it, and so the compiled module does wherever it is compiled.
+// x86-64 convention has it, and so the compiled module does wherever it is compiled. What a caller owes for the pointers:
+// rust/zenithgong/src/declarations.rs.
 #include <stddef.h>
 #include <stdint.h>
 

@@ -8,7 +8,7 @@ BEGIN {
 
 function at(ratio) { return left + decade * (log(ratio) / log(10) - low) }
 
-$1 !~ /^count/ { row[++n] = $1; for (k = 1; k <= 5; k++) ratio[n, k] = $(4 + k) }
+$1 !~ /^count/ { row[++n] = $1; for (k = 1; k <= 5; k++) ratio[n, k] = $(5 + k) }
 
 END {
     right = left + decade * (last - low)

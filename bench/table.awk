@@ -7,7 +7,9 @@ BEGIN {
     print "*Rust* go the same walk without blocks, *limit* is a `memset` of the map (`memcpy` of the cells for save and read). The time is the"
     print "processor time of the thread. The interval changes with every call; what a call writes is cleared before it, outside the time; all"
     print "contenders must leave the same bytes. Medians of 5 to 41 repetitions, the ratios taken within a repetition. Periods by a fixed"
-    print "seed: 30 of 3 to 2,000 (mix), 1,000 of 4,096 to 2^20, 1,000 of 4,096 to 2^31. Instructions are counted by callgrind, with the set-up."
+    print "seed: 30 of 3 to 2,000 (mix), 1,000 of 4,096 to 2^20, 1,000 of 4,096 to 2^31. The peers judge nothing that they are given but the"
+    print "blocks of a file; ours judges all of it, within the time. The rows *map, instructions* are counts by callgrind, with the set-up, and"
+    print "their ratios are ratios of counts."
     print ""
     print "| what | periods | window | MiB | ours | naive | C, gcc -O2 | C, clang -O3 | Rust | limit |"
     print "|---|---|--:|--:|--:|--:|--:|--:|--:|--:|"
@@ -17,10 +19,10 @@ function short(x) { return x == "-" ? "" : x >= 100 ? sprintf("%.0f", x) : x >= 
 
 {
     split($1, name, " ")
-    ours = name[1] == "count" ? short($3) " a hit" : name[1] == "map" && $4 < 20000 ? short($3 * $4 / 1000) " µs a call" : short($3) " ns a " $2
+    ours = name[1] == "count" ? short($3) " a hit" : name[1] == "map" && $5 < 20000 ? short($4 / 1000) " µs a call" : short($3) " ns a " $2
     for (k = 2; k <= 4; k++) if (name[k] == "-") name[k] = ""
-    print "| " what[name[1]] " | " name[2] " | " name[3] " | " name[4] " | " ours " | " short($5) " | " short($6) " | " short($7) " | " short($8) " | " short($9) " |"
-    ours_of[$1] = $3; naive[$1] = $5; plain[$1] = $6
+    print "| " what[name[1]] " | " name[2] " | " name[3] " | " name[4] " | " ours " | " short($6) " | " short($7) " | " short($8) " | " short($9) " | " short($10) " |"
+    ours_of[$1] = $3; naive[$1] = $6; plain[$1] = $7
 }
 
 function bar(text, value, least) { print "| " text " | ≥ " least " | " short(value) " | " (value >= least ? "met" : "**missed**") " |" }

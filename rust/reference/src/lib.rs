@@ -1,5 +1,6 @@
-//! Document 01 once more, written from its text and not from the library's code: every cell is looked at,
-//! every number is an i128, and nothing is fast. An answer is `Ok`, a refusal `Err` with its number.
+//! Document 01 once more, written from its text and not from the library's code. Hits are found by looking at every cell,
+//! or in long runs at every line; step vectors by trying all vectors, or for long periods by 01's conditions on what was
+//! answered. The numbers of runs, cells and vectors are i128. An answer is `Ok`, a refusal `Err` with its number.
 
 #[derive(Clone, Copy, Debug, PartialEq, Eq)]
 pub struct Run {

@@ -1,5 +1,11 @@
 //! The exported functions and the answers that they give, as `crates/exports/src/lib.rt` has them.
-//! A slice there is a pointer and a length here. `tests/declarations.rs` holds this file to that one.
+//! A slice there is a pointer and a length here. `tests/compare/declarations.rs` holds this file to that one.
+//!
+//! Any numbers and any lengths may be given, but memory cannot be judged. So a caller owes this much, in C too:
+//! - a pointer is aligned, is not null (also with length 0) and is valid for as many elements as the length after it says,
+//!   a `*mut` one for writing too;
+//! - what is lent as `*mut` (a room, a map, a file room) overlaps nothing else that the call is given;
+//! - during the call nobody else uses what is lent as `*mut`, or writes to the rest.
 
 /// The step vectors.
 #[repr(C)]

@@ -1,6 +1,7 @@
 //! Which samples of a scope sat near an edge of a known clock: the proved library, for Rust.
 //!
 //! No function here asks anything of its caller: bad input is refused, and a refused call stores nothing.
+//! Slices are what the declarations ask of pointers: valid for their lengths, and a `&mut` one overlaps nothing.
 
 pub mod declarations;
 

@@ -12,8 +12,8 @@ fn sources(random: &mut Random, count: u64) -> (Vec<u32>, Vec<u32>) {
         .unzip()
 }
 
-/// One call, held to the reference, which goes by all cells or by lines.
-fn compare(run: Run, periods: &[u32], weights: &[u32], map: Vec<u8>, by_line: bool) {
+/// One call, held to the reference, which goes by all cells or by lines; and the reference's map after it.
+fn compare(run: Run, periods: &[u32], weights: &[u32], map: Vec<u8>, by_line: bool) -> Vec<u8> {
     let (mut map, mut after) = (map.clone(), map);
     let hits = |run: &reference::Run, p: i128| {
         if by_line {
@@ -31,6 +31,7 @@ fn compare(run: Run, periods: &[u32], weights: &[u32], map: Vec<u8>, by_line: bo
         words()
     );
     assert!(map == after, "{}: the maps differ", words());
+    after
 }
 
 #[test]
@@ -59,43 +60,40 @@ fn small() {
     });
 }
 
+/// A cut into blocks of up to four lines, each block once with each source, all in a random order.
+fn calls_of_blocks(random: &mut Random, run: Run, sources: usize) -> Vec<(Run, usize)> {
+    let (mut calls, mut first) = (Vec::new(), run.first);
+    while first <= run.last {
+        let last = (first + random.below(4) as u32).min(run.last);
+        calls.extend((0..sources).map(|k| (Run { first, last, ..run }, k)));
+        first = last + 1;
+    }
+    for k in (1..calls.len()).rev() {
+        calls.swap(k, random.below(k as u64 + 1) as usize);
+    }
+    calls
+}
+
 #[test]
 fn blocks_in_any_order() {
     trials("maps of blocks", 2_000, |random| {
-        let (run, count) = (random.small_run(), random.below(5));
-        let (periods, weights) = sources(random, count);
-        let mut whole = random.bytes(wide(run).cells() as usize);
-        let mut map = whole.clone();
-        ours(run, &periods, &weights, &mut whole).unwrap();
-        let (mut first, mut at, mut calls) = (run.first, 0, 1);
-        while first <= run.last {
-            let last = (first + random.below(4) as u32).min(run.last);
-            let block = Run { first, last, ..run };
-            let end = at + wide(block).cells() as usize;
-            for k in (0..count as usize).rev() {
-                ours(
-                    block,
-                    &periods[k..k + 1],
-                    &weights[k..k + 1],
-                    &mut map[at..end],
-                )
-                .unwrap();
-                calls += 1;
-            }
-            (first, at) = (last + 1, end);
+        let (run, count) = (random.small_run(), random.below(5) as usize);
+        let (periods, weights) = sources(random, count as u64);
+        let mut map = random.bytes(wide(run).cells() as usize);
+        let whole = compare(run, &periods, &weights, map.clone(), false);
+        let calls = calls_of_blocks(random, run, count);
+        for &(block, k) in &calls {
+            let start = ((block.first - run.first) * run.window) as usize;
+            let cells = &mut map[start..start + wide(block).cells() as usize];
+            ours(block, &periods[k..=k], &weights[k..=k], cells).unwrap();
         }
-        assert!(
-            map == whole,
-            "{:?}, periods {:?}, weights {:?}",
-            run,
-            periods,
-            weights
-        );
-        calls
+        let words = || format!("{:?}, periods {:?}, weights {:?}", run, periods, weights);
+        assert!(map == whole, "{} by {:?}", words(), calls);
+        1 + calls.len() as u64
     });
 }
 
-/// A run of so many cells.
+/// A run of these lines, placed anywhere, at any interval.
 fn run_of(random: &mut Random, window: u32, lines: u32) -> Run {
     let first = random.between(1, 16_777_217 - lines as u64);
     let interval = random.number().max(1);
