@@ -27,6 +27,13 @@ pub enum Loaded {
     Refused(u8),
 }
 
+// A block has so many bytes: its number, its contents, its check.
+const BLOCK: usize = 512;
+// So many of them are its contents, from byte 4 on.
+const CONTENTS: usize = 504;
+// Its check stands from this byte on.
+const CHECK: usize = 508;
+
 // A byte as a wider number: the same, and below 256.
 fn wide(byte: u8) -> u32
     ensures { λ r. ⌜ (r ≡ byte) × (r < 256) ⌝ }
@@ -41,7 +48,7 @@ pub fn check(block: &[u8]) -> u32
 {
     let mut sum: u32 = 1;
     let mut k: usize = 0;
-    while k < 508 {
+    while k < CHECK {
         sum += (k as u32 + 1) * wide(block[k]);
         k += 1;
     }
@@ -117,9 +124,9 @@ fn write_block(number: u32, bytes: &[u8], block: &mut [u8])
     let end = 4 + bytes.len();
     put_four(&mut block[0..4], number);
     copy(bytes, &mut block[4..end]);
-    clear(&mut block[end..508]);
+    clear(&mut block[end..CHECK]);
     let sum = check(block);
-    put_four(&mut block[508..512], sum);
+    put_four(&mut block[CHECK..BLOCK], sum);
 }
 
 // What 01's table says of a block that is to have this number and to hold `size` bytes: 14 for the number or the check,
@@ -131,10 +138,10 @@ fn judge_block(number: u32, size: usize, block: &[u8]) -> Verdict
     if four_at(block, 0) != number {
         return Verdict::Refused(14);
     }
-    if four_at(block, 508) != check(block) {
+    if four_at(block, CHECK) != check(block) {
         return Verdict::Refused(14);
     }
-    if !zeros_from(&block[4..508], size) {
+    if !zeros_from(&block[4..CHECK], size) {
         return Verdict::Refused(15);
     }
     Verdict::Fine
@@ -175,11 +182,11 @@ pub fn write_cells(map: &[u8], room: &mut [u8])
     ensures { λ _. ⌜ now (room .exit) ≡ cellBlocks (now (map .entry)) (blocksFor (length (now (map .entry)))) ⌝ }
 {
     let mut k: usize = 0;
-    while 504 * k < map.len() {
-        let from = 504 * k;
-        let end = least(from + 504, map.len());
-        let at = 512 * k;
-        let next = at + 512;
+    while CONTENTS * k < map.len() {
+        let from = CONTENTS * k;
+        let end = least(from + CONTENTS, map.len());
+        let at = BLOCK * k;
+        let next = at + BLOCK;
         write_block((k + 1) as u32, &map[from..end], &mut room[at..next]);
         k += 1;
     }
@@ -202,8 +209,8 @@ pub fn save(run: Run, map: &[u8], file: &mut [u8]) -> Saved
         return Saved::Refused(9);
     }
     let end = file.len();
-    write_heading(run, &mut file[0..512]);
-    write_cells(map, &mut file[512..end]);
+    write_heading(run, &mut file[0..BLOCK]);
+    write_cells(map, &mut file[BLOCK..end]);
     Saved::Done
 }
 
@@ -230,12 +237,12 @@ fn judge_cells(size: usize, file: &[u8]) -> Verdict
     ensures { λ r. ⌜ r ≡ verdict (complaint (cellBlocksTests size (now (file .entry)) (blocksFor size))) ⌝ }
 {
     let mut k: usize = 0;
-    while 504 * k < size {
-        let at = 512 * (k + 1);
-        let next = at + 512;
+    while CONTENTS * k < size {
+        let at = BLOCK * (k + 1);
+        let next = at + BLOCK;
         if let Verdict::Refused(number) = judge_block(
             (k + 1) as u32,
-            size - 504 * k,
+            size - CONTENTS * k,
             &file[at..next],
         ) {
             return Verdict::Refused(number);
@@ -263,13 +270,13 @@ pub fn run_of(file: &[u8]) -> Run
 fn judge_file(file: &[u8]) -> Loaded
     ensures { λ r. ⌜ saysReading r ≡ reply (complaint (fileTests (now (file .entry)))) (runOf (now (file .entry))) ⌝ }
 {
-    if file.len() % 512 != 0 {
+    if file.len() % BLOCK != 0 {
         return Loaded::Refused(13);
     }
     if file.len() == 0 {
         return Loaded::Refused(13);
     }
-    if let Verdict::Refused(number) = judge_heading(&file[0..512]) {
+    if let Verdict::Refused(number) = judge_heading(&file[0..BLOCK]) {
         return Loaded::Refused(number);
     }
     let run = run_of(file);
@@ -292,10 +299,10 @@ fn load(file: &[u8], map: &mut [u8])
     ensures { λ _. ⌜ now (map .exit) ≡ take (length (now (map .entry))) (bytesIn (now (file .entry)) (blocksFor (length (now (map .entry))))) ⌝ }
 {
     let mut k: usize = 0;
-    while 504 * k < map.len() {
-        let from = 504 * k;
-        let end = least(from + 504, map.len());
-        let at = 512 * (k + 1) + 4;
+    while CONTENTS * k < map.len() {
+        let from = CONTENTS * k;
+        let end = least(from + CONTENTS, map.len());
+        let at = BLOCK * (k + 1) + 4;
         let next = at + (end - from);
         copy(&file[at..next], &mut map[from..end]);
         k += 1;
