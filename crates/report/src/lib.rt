@@ -17,17 +17,22 @@ ghost use Rattle.sources.specs.Entry.{entriesOf};
 ghost use Rattle.report.specs.Report.{zeros, blank, runReport, entryReport, srcReport, cellReport, mapReport, above, endReport, reportedMap, cellsReport, wholeReport, refusedWord, Prints, ReportPromise};
 ghost use Rattle.report.specs.Inner.{Reportable, cleared};
 
+// Room for the longest report.
+const ROOM: usize = 921600;
+// A run in a text has at most so many cells.
+const CELLS: usize = 65536;
+
 // What the list program prints: how many bytes, and the bytes; the rest is 0. The longest report has 920,650 bytes at most.
 pub struct Output {
     pub length: usize,
-    pub bytes: [u8; 921600],
+    pub bytes: [u8; ROOM],
 }
 
 // A room for the longest report, with nothing in it.
-fn blank() -> [u8; 921600]
+fn blank() -> [u8; ROOM]
     ensures { λ r. ⌜ r ≡ blank ⌝ }
 {
-    [0; 921600]
+    [0; ROOM]
 }
 
 // Writes bytes into the room at `at` and answers the place after them.
@@ -119,17 +124,17 @@ fn write_cells(room: &mut [u8], at: usize, map: &[u8]) -> usize
 }
 
 // Cells for the longest run that a text may have, with nothing in them.
-fn cleared() -> [u8; 65536]
+fn cleared() -> [u8; CELLS]
     ensures { λ r. ⌜ r ≡ cleared ⌝ }
 {
-    [0; 65536]
+    [0; CELLS]
 }
 
 // Room for as many hits as a run that a text may have has cells, with nothing in it.
-fn hit_room() -> [u64; 65536]
+fn hit_room() -> [u64; CELLS]
     ensures { λ r. ⌜ r ≡ zeros 65536 ⌝ }
 {
-    [0; 65536]
+    [0; CELLS]
 }
 
 // How many cells of a run a source hits. They are no more than its cells, so all of them are listed in one call.

@@ -9,6 +9,13 @@ ghost use lib.ListN.{set};
 ghost use Rattle.text.specs.Promise.{refusal, TextPromise};
 ghost use Rattle.text.specs.Inner.{WordAt, FieldAt, LineAt, RunAt, SourceAt, SourcesAt};
 
+// A text has at most so many bytes,
+const LONGEST: usize = 4096;
+// so many sources,
+const SOURCES: usize = 64;
+// and a run of so many cells.
+const CELLS: u64 = 65536;
+
 // The reply of reading a text.
 pub enum Answer {
     // The run.
@@ -22,8 +29,8 @@ pub enum Answer {
 pub struct Input {
     pub answer: Answer,
     pub count: usize,
-    pub periods: [u32; 64],
-    pub weights: [u32; 64],
+    pub periods: [u32; SOURCES],
+    pub weights: [u32; SOURCES],
 }
 
 // What looking for something at a place of a text finds.
@@ -169,8 +176,8 @@ fn refuse(number: u8) -> Input
     Input {
         answer: Answer::Refused(number),
         count: 0,
-        periods: [0; 64],
-        weights: [0; 64],
+        periods: [0; SOURCES],
+        weights: [0; SOURCES],
     }
 }
 
@@ -180,24 +187,24 @@ fn refuse(number: u8) -> Input
 pub fn read_text(text: &[u8]) -> Input
     ensures { λ r. ⌜ TextPromise (now (text .entry)) r ⌝ }
 {
-    if 4096 < text.len() {
+    if LONGEST < text.len() {
         return refuse(11);
     }
     let RunLine::Runs(run, at) = read_run(text) else {
         return refuse(11);
     };
-    let mut periods = [0u32; 64];
-    let mut weights = [0u32; 64];
+    let mut periods = [0u32; SOURCES];
+    let mut weights = [0u32; SOURCES];
     let SourceLines::Count(count) = read_sources(text, at, &mut periods, &mut weights) else {
         return refuse(11);
     };
     if let Verdict::Refused(number) = scope::judge_run(run) {
         return refuse(number);
     }
-    if 64 < count {
+    if SOURCES < count {
         return refuse(12);
     }
-    if 65536 < scope::cells(run) {
+    if CELLS < scope::cells(run) {
         return refuse(12);
     }
     if let Verdict::Refused(number) = sources::judge_entries(&periods[..count], &weights[..count]) {
