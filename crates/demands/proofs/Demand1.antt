@@ -2,36 +2,40 @@
 -- gets the refusal number of document 01, exactly when its table says so, and a refused call stores nothing."
 -- That every call ends is what the check of its function says, and no public operation has a `requires`. The rest stands
 -- here, for every input and every outcome that a promise admits. Assumes nothing.
-use Prim.Native.Nat.{ℕ, zero, suc, _<_}
+use Prim.Native.Nat.{ℕ, zero, suc, _≤_, _<_}
 use native.Mathlib.Omega.{arith}
 use mathlib.Core.Path.{_≡_, refl, sym, ap, _∙_, subst}
-use mathlib.Core.Logic.{_↔_, Iff·trans, _⊎_, inl, inr}
+use mathlib.Core.Logic.{_↔_, Iff·trans, _⊎_, inl, inr, _≢_}
 use mathlib.Core.List.{List, [], _∷_, _++_}
 use mathlib.Core.Option.{Option, some, none}
 use lib.ListN.{length, getD, take}
 use lib.Seq.{take-at}
+use borrow.Author.Tests.{leb-false, lt-leb}
 use Rattle.scope.specs.declared.Run.{Run}
 use Rattle.scope.specs.declared.Source.{Source}
 use Rattle.scope.specs.declared.RunCell.{RunCell}
+use Rattle.scope.specs.Run.{Valid, ValidSource, cellsOf}
 use Rattle.scope.specs.Hit.{hitsFrom}
 use Rattle.scope.specs.Refusal.{Complaint, complaint, number}
 use Rattle.scope.specs.Reply.{Said, refused, answered}
 use Rattle.sources.specs.Entry.{Entry, entriesOf}
-use Rattle.scope.proofs.Judged.{Fails}
-use Rattle.sources.specs.Lists.{periodsOf, weightsOf}
-use Rattle.sources.proofs.Entries.{entries-of, periods-length, weights-length}
+use Rattle.scope.proofs.Judged.{Fails, sound, both}
+use Rattle.scope.proofs.Limits.{passes-when, passes-first, passes-then, valid-run, valid-run-passes, valid-source, valid-source-passes}
+use Rattle.sources.specs.Lists.{periodsOf, weightsOf, AllValid}
+use Rattle.sources.proofs.Entries.{entries-of, periods-length, weights-length, valid-entries, valid-entries-pass}
 use Rattle.vectors.specs.declared.Basis.{Basis}
 use Rattle.vectors.specs.declared.Steps.{Steps}
 use Rattle.vectors.specs.Promise.{vectorsTests, saysVectors, Admits, VectorsPromise}
 use Rattle.hits.specs.declared.FirstHit.{FirstHit}
 use Rattle.hits.specs.declared.Listing.{Listing}
-use Rattle.hits.specs.Promise.{saysFirstHit, saysListing, first, listed, written, FirstHitPromise, ListingPromise}
+use Rattle.hits.specs.Promise.{firstHitTests, saysFirstHit, saysListing, first, listed, written, FirstHitPromise, ListingPromise}
 use Rattle.map.specs.declared.Added.{Added}
-use Rattle.map.specs.Map.{added, saysMap, MapPromise}
+use Rattle.map.specs.Map.{mapTests, added, saysMap, MapPromise}
 use Rattle.saved.specs.declared.Saved.{Saved}
 use Rattle.saved.specs.declared.Loaded.{Loaded}
 use Rattle.saved.specs.File.{fileOf, runOf, mapOf}
 use Rattle.saved.specs.Promise.{saysSaving, saysReading, SavingPromise, ReadingPromise}
+use Rattle.saved.proofs.Differs.{agrees, same}
 use Rattle.text.specs.declared.Answer.{Answer}
 use Rattle.text.specs.declared.Answer.the-variants.{Read, Refused}
 use Rattle.text.specs.declared.Input.{Input}
@@ -41,9 +45,9 @@ use Rattle.text.proofs.Lines.{line-split}
 use Rattle.text.proofs.Unique.{spells-unique}
 use Rattle.report.specs.declared.Output.{Output}
 use Rattle.report.specs.Report.{refusedWord, runReport, wholeReport, printed, reportOf, ReportPromise}
-use Rattle.demands.specs.Table.{_given_, Says, BadPeriod, BadWeight, AtFault, vectorsTable, firstHitTable, listingTable, sourcesTable, mapTable, savingTable, readingTable, textTable, SaysOfText}
+use Rattle.demands.specs.Table.{Row, _given_, Says, Silent, BadPeriod, BadWeight, atPlace, AtFault, runTable, vectorsTable, firstHitTable, listingTable, sourcesTable, mapTable, savingTable, readingTable, textTable, SaysOfText}
 use Rattle.demands.specs.Texts.{printedBy}
-use Rattle.demands.proofs.Rendered.{exactly, keeps}
+use Rattle.demands.proofs.Rendered.{says-split, silent-says, exactly, keeps}
 use Rattle.demands.proofs.Rows.{vectors-rows, first-hit-rows, listing-rows, map-rows, saving-rows, reading-rows, text-rows}
 
 -- ---- vectors
@@ -171,23 +175,61 @@ report-refused text output h n =
     let is : printedBy output ≡ bytes = ap (take (output .length)) (h .says .begins) ∙ take-at bytes _ (output .length) (sym (h .says .counts)) in
     rw is (Iff·trans (printed-refused (replyTo (h .content)) (handed (h .content)) n) (reply-refused text (h .content) (h .reads) n))
 
+-- ---- input that is not bad
+
+-- The interval is a number of 32 bits, so that its upper limit is no row.
+module _ (run : Run) (fits : run .interval ≤ 4294967295) where
+  -- The table of the first-hit call says nothing exactly if run, source and start are within 01's ranges.
+  pub first-hit-silent : (source : Source) (start : RunCell) → Silent (firstHitTable run source start) ↔ (Valid run × ValidSource source × (start .0 < cellsOf run))
+  unfolding firstHitTests
+  first-hit-silent source start =
+      let rows = first-hit-rows run source start in (
+        λ s. let p = rows .passes .1 s in (valid-run (passes-first (passes-first p)) fits, valid-source (passes-then (passes-first p)), leb-false _ _ (passes-when (passes-then p))),
+        λ h. rows .passes .0 (both (both (valid-run-passes (h .0)) (valid-source-passes (h .1))) (sound (lt-leb _ _ (h .2)))),
+      )
+
+  -- That of the map call exactly if the run and all sources are, and the lists and the map have the right lengths.
+  pub map-silent : (periods weights map : List ℕ) → Silent (mapTable run periods weights map) ↔ (Valid run × (length periods ≡ length weights) × AllValid 255 (entriesOf periods weights) × (length map ≡ cellsOf run))
+  unfolding mapTests
+  map-silent periods weights map =
+      let entries = entriesOf periods weights in
+      let rows = map-rows run periods weights map in (
+        λ s.
+            let p = rows .passes .1 s in
+            let lists = passes-first p in
+            (valid-run (passes-first (passes-first lists)) fits, same _ _ (passes-then (passes-first lists)), valid-entries 255 1 entries (passes-then lists), same _ _ (passes-then p)),
+        λ h. rows .passes .0 (both (both (both (valid-run-passes (h .0)) (sound (agrees refl refl (h .1)))) (valid-entries-pass 255 1 entries (h .2))) (sound (agrees refl refl (h .3)))),
+      )
+
 -- ---- a list of sources at fault
+
+-- behind a list's first number the places are one more
+place-behind : (x : ℕ) (numbers : List ℕ) (k : ℕ) → 1 ≤ k → atPlace (x ∷ numbers) (suc k) ≡ atPlace numbers k
+place-behind x numbers zero h = absurd (omega arith)
+place-behind x numbers (suc k) h = refl
 
 module _ (p : ℕ) (periods : List ℕ) (w : ℕ) (weights : List ℕ) (n : ℕ) (rest : Says (sourcesTable (entriesOf periods weights)) n ↔ AtFault periods weights n) where
   -- no place before the one at fault behind it, the first being within the limits
-  none-before : (BadPeriod p → ⊥) → (BadWeight w → ⊥) → (f : AtFault periods weights n) (k : ℕ) → k < suc (f .place) → BadPeriod (getD (p ∷ periods) k 0) ⊎ BadWeight (getD (w ∷ weights) k 0) → ⊥
-  none-before a b f zero l (inl x) = a x
-  none-before a b f zero l (inr y) = b y
-  none-before a b f (suc k) l z = f .least k (omega arith) z
+  none-before : (BadPeriod p → ⊥) → (BadWeight w → ⊥) → (f : AtFault periods weights n) (k : ℕ) → 1 ≤ k → k < suc (f .place) → BadPeriod (atPlace (p ∷ periods) k) ⊎ BadWeight (atPlace (w ∷ weights) k) → ⊥
+  none-before a b f zero h l z = omega arith
+  none-before a b f (suc zero) h l (inl x) = a x
+  none-before a b f (suc zero) h l (inr y) = b y
+  none-before a b f (suc (suc k)) h l z = f .least (suc k) (omega arith) (omega arith) z
 
   -- what the table says is broken at the least place at fault
   found : Says (sourcesTable (entriesOf (p ∷ periods) (w ∷ weights))) n → AtFault (p ∷ periods) (w ∷ weights) n
   unfolding entriesOf
-  found (inl h) = record { place = 0; inside = omega arith; least = λ k l z. omega arith; breaks = inl h }
-  found (inr (a, inl h)) = record { place = 0; inside = omega arith; least = λ k l z. omega arith; breaks = inr (a, inl h) }
+  found (inl h) = record { place = 1; from = omega arith; inside = omega arith; least = λ k h l z. omega arith; breaks = inl h }
+  found (inr (a, inl h)) = record { place = 1; from = omega arith; inside = omega arith; least = λ k h l z. omega arith; breaks = inr (a, inl h) }
   found (inr (a, inr (b, h))) =
       let f = rest .0 h in
-      record { place = suc (f .place); inside = omega arith; least = none-before a b f; breaks = f .breaks }
+      record {
+        place = suc (f .place);
+        from = omega arith;
+        inside = omega arith;
+        least = none-before a b f;
+        breaks = rw (place-behind p periods (f .place) (f .from), place-behind w weights (f .place) (f .from)) (f .breaks);
+      }
 
   -- and back, if the first is at fault
   here : Says (4 given BadPeriod p ∷ 7 given BadWeight w ∷ []) n → Says (sourcesTable (entriesOf (p ∷ periods) (w ∷ weights))) n
@@ -197,12 +239,14 @@ module _ (p : ℕ) (periods : List ℕ) (w : ℕ) (weights : List ℕ) (n : ℕ)
   here (inr (a, inr h)) = absurd (h .1)
 
   -- or the one at place k
-  told : (k : ℕ) → k < length (p ∷ periods) → ((j : ℕ) → j < k → BadPeriod (getD (p ∷ periods) j 0) ⊎ BadWeight (getD (w ∷ weights) j 0) → ⊥) → Says (4 given BadPeriod (getD (p ∷ periods) k 0) ∷ 7 given BadWeight (getD (w ∷ weights) k 0) ∷ []) n → Says (sourcesTable (entriesOf (p ∷ periods) (w ∷ weights))) n
+  told : (k : ℕ) → 1 ≤ k → k ≤ length (p ∷ periods) → ((j : ℕ) → 1 ≤ j → j < k → BadPeriod (atPlace (p ∷ periods) j) ⊎ BadWeight (atPlace (w ∷ weights) j) → ⊥) → Says (4 given BadPeriod (atPlace (p ∷ periods) k) ∷ 7 given BadWeight (atPlace (w ∷ weights) k) ∷ []) n → Says (sourcesTable (entriesOf (p ∷ periods) (w ∷ weights))) n
   unfolding entriesOf
-  told zero l least breaks = here breaks
-  told (suc k) l least breaks =
-      let none-here = least 0 (omega arith) in
-      inr (λ a. none-here (inl a), inr (λ b. none-here (inr b), rest .1 (record { place = k; inside = omega arith; least = λ j i. least (suc j) (omega arith); breaks = breaks })))
+  told zero f l least breaks = absurd (omega arith)
+  told (suc zero) f l least breaks = here breaks
+  told (suc (suc k)) f l least breaks =
+      let none-here = least 1 (omega arith) (omega arith) in
+      let behind : (j : ℕ) → 1 ≤ j → j < suc k → BadPeriod (atPlace periods j) ⊎ BadWeight (atPlace weights j) → ⊥ = λ j i m. rw (place-behind p periods j i, place-behind w weights j i) at (least (suc j) (omega arith) (omega arith)) in
+      inr (λ a. none-here (inl a), inr (λ b. none-here (inr b), rest .1 (record { place = suc k; from = omega arith; inside = omega arith; least = behind; breaks = breaks })))
 
 -- "source by source 4 before 7": what the table says of two lists is what is broken at the least place whose source breaks 4
 -- or 7; it is 4 if that source breaks 4.
@@ -213,8 +257,35 @@ sources-at-fault [] (w ∷ weights) e n = absurd (omega arith)
 sources-at-fault (p ∷ periods) [] e n = absurd (omega arith)
 sources-at-fault (p ∷ periods) (w ∷ weights) e n =
     let rest = sources-at-fault periods weights (omega arith) n in
-    (found p periods w weights n rest, λ f. told p periods w weights n rest (f .place) (f .inside) (f .least) (f .breaks))
+    (found p periods w weights n rest, λ f. told p periods w weights n rest (f .place) (f .from) (f .inside) (f .least) (f .breaks))
 
 -- The same of the sources that a text has.
 pub entries-at-fault : (entries : List Entry) (n : ℕ) → Says (sourcesTable entries) n ↔ AtFault (periodsOf entries) (weightsOf entries) n
 entries-at-fault entries n = rw (entries-of entries) at (sources-at-fault (periodsOf entries) (weightsOf entries) (periods-length entries ∙ sym (weights-length entries)) n)
+
+-- Where the run and the lengths of the lists are in order, a map call reads "refused n", n being no 9, exactly if a source is so
+-- at fault: then n is 4 or 7.
+pub map-at-fault : (run : Run) (periods weights map : List ℕ) (answer : Added) (after : List ℕ) → MapPromise run periods weights map answer after → Silent (runTable run) → length periods ≡ length weights → (n : ℕ) → n ≢ 9 → (saysMap answer ≡ refused n) ↔ AtFault periods weights n
+map-at-fault run periods weights map answer after h fine equal n other = Iff·trans (map-refused run periods weights map answer after h n) (Iff·trans (to, from) (sources-at-fault periods weights equal n))
+  where
+    sources : List Row
+    sources = sourcesTable (entriesOf periods weights)
+
+    room : List Row
+    room = 9 given (length map ≢ cellsOf run) ∷ []
+
+    last : Says sources n ⊎ (Silent sources × Says room n) → Says sources n
+    last (inl k) = k
+    last (inr (s, inl k)) = absurd (other (sym (k .0)))
+    last (inr (s, inr k)) = absurd (k .1)
+
+    lists : Says (runTable run) n ⊎ (Silent (runTable run) × Says (10 given (length periods ≢ length weights) ∷ (sources ++ room)) n) → Says sources n
+    lists (inl k) = absurd (silent-says (runTable run) n fine k)
+    lists (inr (s, inl k)) = absurd (k .1 equal)
+    lists (inr (s, inr k)) = last (says-split sources room n .0 (k .1))
+
+    to : Says (mapTable run periods weights map) n → Says sources n
+    to s = lists (says-split (runTable run) (10 given (length periods ≢ length weights) ∷ (sources ++ room)) n .0 s)
+
+    from : Says sources n → Says (mapTable run periods weights map) n
+    from s = says-split (runTable run) (10 given (length periods ≢ length weights) ∷ (sources ++ room)) n .1 (inr (fine, inr (λ k. k equal, says-split sources room n .1 (inl s))))

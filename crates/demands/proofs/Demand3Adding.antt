@@ -7,16 +7,18 @@ use native.Mathlib.Nat.{zero-add}
 use native.Mathlib.Decide.{ℕ-discrete}
 use native.Mathlib.Omega.{arith}
 use mathlib.Core.Path.{_≡_, refl, sym, ap, ap₂, _∙_}
-use mathlib.Core.Bool.{not}
+use mathlib.Core.Bool.{Bool, true, false, cond, not}
 use mathlib.Core.List.{List, [], _∷_, _++_, append-nil, List·Permᴰ, List·Permᴰ·nil, List·Permᴰ·cons, List·Permᴰ·swap, List·Permᴰ·trans, Permᴰ·refl}
 use lib.ListN.{length, getD, set, length-set}
 use lib.Seq.{getD-set-same, getD-set-other}
 use borrow.Author.Tests.{eq-eqb, ne-eqb}
 use Rattle.scope.specs.declared.Run.{Run}
 use Rattle.scope.specs.Run.{Valid, Within, cellsOf}
+use Rattle.scope.specs.Hit.{isHit}
 use Rattle.sources.specs.Entry.{Entry}
 use Rattle.scope.proofs.Judged.{Passes, sound, both}
 use Rattle.scope.proofs.Limits.{valid-run-passes}
+use Rattle.scope.proofs.Hits.{hit-hits}
 use Rattle.map.specs.declared.Added.{Added}
 use Rattle.map.specs.declared.Added.the-variants.{Done}
 use Rattle.map.specs.Sum.{raised}
@@ -26,10 +28,26 @@ use Rattle.sources.specs.Lists.{periodsOf, weightsOf, AllValid}
 use Rattle.sources.proofs.Entries.{valid-entries-pass, entries-of, periods-length, weights-length}
 use Rattle.map.proofs.Entries.{weight-shift, added-append, added-none, added-same, added-length, added-within, added-getD}
 use Rattle.map.proofs.Promise.{granted-call, stores-added, says-map-injective}
+use Rattle.demands.specs.FirstHit.{HitsCell}
 use Rattle.demands.specs.Cut.{CutFrom, Cut}
 use Rattle.demands.specs.Adding.{together, Maps, Call, Keep, leave, addedTo, NoneRefused, History, Adds}
 use Rattle.demands.proofs.Cuts.{piece-is, before, before-first, before-piece}
 use Rattle.demands.proofs.CutMaps.{valid-at, maps-length, map-at, before-on, cut-cells}
+
+-- ---- "the weights of all its hits"
+
+-- Of a list's first source that is its weight where the source hits the cell, and nothing where it does not.
+pub weight-hit : (run : Run) (entry : Entry) (entries : List Entry) (x : ℕ) → HitsCell run (entry .source) x → weightAt run (entry ∷ entries) x ≡ entry .weight + weightAt run entries x
+unfolding weightAt
+weight-hit run entry entries x h = rw (hit-hits run (entry .source) x .1 h)
+
+pub weight-missed : (run : Run) (entry : Entry) (entries : List Entry) (x : ℕ) → (HitsCell run (entry .source) x → ⊥) → weightAt run (entry ∷ entries) x ≡ weightAt run entries x
+unfolding weightAt
+weight-missed run entry entries x h = go (isHit run (entry .source) x) refl
+  where
+    go : (b : Bool) → isHit run (entry .source) x ≡ b → cond b (entry .weight) 0 + weightAt run entries x ≡ weightAt run entries x
+    go true e = absurd (h (hit-hits run (entry .source) x .0 e))
+    go false e = zero-add (weightAt run entries x)
 
 -- ---- reordered entries
 

@@ -4,7 +4,7 @@
 -- Assumes nothing.
 use Prim.Native.Nat.{ℕ, suc, _≤_, _<_, max}
 use native.Mathlib.Omega.{arith}
-use mathlib.Core.Path.{_≡_, refl, sym, _∙_, subst}
+use mathlib.Core.Path.{_≡_, refl, sym, ap, _∙_, subst}
 use mathlib.Core.Logic.{_↔_}
 use mathlib.Core.List.{List, [], _∷_, List·Memᴰ, List·Memᴰ·head, List·Memᴰ·tail}
 use lib.ListN.{length}
@@ -67,6 +67,11 @@ every-hit-unique run source v a b h k =
     rising-same 0 a b (in-order-rising v a (h .order)) (in-order-rising v b (k .order))
     (λ y. (λ m. k .exactly y .1 (h .exactly y .0 m), λ m. h .exactly y .1 (k .exactly y .0 m)))
 
+-- "the count is that of the hits by the definition above": a list with every hit once is as long as the list that hits are
+-- counted by.
+pub hit-count : (run : Run) (source : Source) → Valid run → (cells : List ℕ) → EveryHitOnce run source cells → length (hitsFrom run source 0) ≡ length cells
+hit-count run source v cells h = ap length (every-hit-unique run source v (hitsFrom run source 0) cells (every-hit-once run source v) h)
+
 -- "Joined in line order, the lists hold every hit of that source in the run once, none besides, by line and then by offset."
 pub joined-holds : (run : Run) (source : Source) (blocks : List Run) → Valid run → Cut run blocks → (lists : Listings source blocks) → EveryHitOnce run source (joined run source blocks lists)
 joined-holds run source blocks v cut lists = subst (EveryHitOnce run source) (sym (joined-is run source blocks v cut lists)) (every-hit-once run source v)
@@ -92,12 +97,15 @@ joined-same run source v blocks blocks′ c c′ lists lists′ = joined-is run 
 
 -- ---- such lists exist
 
--- "any room above nothing": for each supply of rooms there is a chain of calls that the rooms are lent to, with no more calls
--- than hits, or one call if there is none.
-pub chain-exists : (block : Run) (source : Source) → Valid block → ValidSource source → (rooms : ℕ → List ℕ) → ((k : ℕ) → 1 ≤ length (rooms k)) → (chain : Chain block source (record { 0 = 0 })) × Lends rooms chain × (callsOf chain ≤ max 1 (length (hitsFrom block source 0)))
+-- "any room above nothing": for each supply of rooms there is a chain of calls that the rooms are lent to.
+pub chain-exists : (block : Run) (source : Source) → Valid block → ValidSource source → (rooms : ℕ → List ℕ) → ((k : ℕ) → 1 ≤ length (rooms k)) → (chain : Chain block source (record { 0 = 0 })) × Lends rooms chain
 chain-exists block source v w rooms above =
     let c = lent-exists v w (record { 0 = 0 }) (omega (arith, window-cells v)) rooms above in
-    (c .chain, c .lends, few-calls (c .chain))
+    (c .chain, c .lends)
+
+-- "going on where the listing stopped" comes to an end: every chain has no more calls than hits, or one call if there is none.
+pub chain-ends : (block : Run) (source : Source) (start : RunCell) (chain : Chain block source start) → callsOf chain ≤ max 1 (length (hitsFrom block source (start .0)))
+chain-ends block source start chain = few-calls chain
 
 -- No call of such a chain is refused, whichever outcome the promise admits: the first starts at a cell of the block, and where
 -- a call says "more from", the next one does.
@@ -107,12 +115,13 @@ call-answered block source v w start inside room lent (More n next) after h = go
 call-answered block source v w start inside room lent (Refused n) after h = not-refused v w start inside room lent (Refused n) after h n refl
 
 -- And so there are lists for every cut of a valid run, whatever rooms above nothing: to each block's calls its own supply is lent.
-pub listings-exist : (run : Run) (source : Source) → Valid run → ValidSource source → (blocks : List Run) → Cut run blocks → (rooms : Run → ℕ → List ℕ) → ((block : Run) (k : ℕ) → 1 ≤ length (rooms block k)) → (lists : Listings source blocks) × LendsEach rooms source blocks lists
-listings-exist run source v w blocks cut rooms above = each blocks (λ block m. cut-valid run v blocks cut block m .valid)
+pub listings-exist : (run : Run) (source : Source) → Valid run → ValidSource source → (blocks : List Run) → Cut run blocks → (rooms : Run → ℕ → List ℕ) → ((block : Run) → List·Memᴰ block blocks → (k : ℕ) → 1 ≤ length (rooms block k)) → (lists : Listings source blocks) × LendsEach rooms source blocks lists
+listings-exist run source v w blocks cut rooms above = each blocks (λ block m. m)
   where
-    each : (some : List Run) → ((block : Run) → List·Memᴰ block some → Valid block) → (lists : Listings source some) × LendsEach rooms source some lists
+    each : (some : List Run) → ((block : Run) → List·Memᴰ block some → List·Memᴰ block blocks) → (lists : Listings source some) × LendsEach rooms source some lists
     each [] f = (tt, tt)
     each (block ∷ rest) f =
-        let here = chain-exists block source (f block (List·Memᴰ·head refl)) w (rooms block) (above block) in
-        let more = each rest (λ b m. f b (List·Memᴰ·tail m)) in
+        let m = f block (List·Memᴰ·head refl) in
+        let here = chain-exists block source (cut-valid run v blocks cut block m .valid) w (rooms block) (above block m) in
+        let more = each rest (λ b n. f b (List·Memᴰ·tail n)) in
         ((here .0, more .0), (here .1, more .1))

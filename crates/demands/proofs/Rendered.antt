@@ -82,7 +82,8 @@ says-cons row s t n rest = (to, from)
     from (inl (inr h)) = inr (h .0, rest .1 (inl (h .1)))
     from (inr h) = inr (h .0 .0, rest .1 (inr (h .0 .1, h .1)))
 
-says-split : (s t : List Row) (n : ℕ) → Parted s t n
+-- what two tables say, one after the other
+pub says-split : (s t : List Row) (n : ℕ) → Parted s t n
 says-split [] t n = (λ h. inr (tt, h), λ h. ⊎-elim (λ k. absurd k) (λ k. k .1) h)
 says-split (row ∷ s) t n = says-cons row s t n (says-split s t n)
 
@@ -91,6 +92,12 @@ silent-split [] t = (λ h. (tt, h), λ h. h .1)
 silent-split (row ∷ s) t =
     let rest = silent-split s t in
     (λ h. ((h .0, rest .0 (h .1) .0), rest .0 (h .1) .1), λ h. (h .0 .0, rest .1 (h .0 .1, h .1)))
+
+-- a table that says nothing says no number
+pub silent-says : (s : List Row) (n : ℕ) → Silent s → Says s n → ⊥
+silent-says [] n h k = k
+silent-says (row ∷ s) n h (inl k) = h .0 (k .1)
+silent-says (row ∷ s) n h (inr k) = silent-says s n (h .1) (k .1)
 
 infixl 40 _next_
 -- the tests of one table, then those of another

@@ -1,11 +1,13 @@
--- For every input of the six operations below some reply fits the promise, so that the theorems over these promises are not
--- empty. For the text and the report there is no such theorem here: there the outcome that fits is that of the proved function
--- itself. (That the program's own reply fits is what the check of each of the eight operations says.) Assumes nothing.
+-- For every input of six of the operations some reply fits the promise, so that the theorems over the promises are not empty.
+-- Some reply and some report fit a text that says something, and one that has not the form; that each text is one of these is
+-- what the proved functions show by their answers. (That the program's own reply fits is what the check of each of the eight
+-- operations says.) Assumes nothing.
 use Prim.Native.Nat.{ℕ}
 use mathlib.Core.Path.{_≡_, refl}
 use mathlib.Core.Logic.{_⊎_, inl, inr}
-use mathlib.Core.List.{List}
+use mathlib.Core.List.{List, _++_}
 use mathlib.Core.Option.{Option, some, none}
+use lib.ListN.{length, drop}
 use Rattle.scope.specs.declared.Run.{Run}
 use Rattle.scope.specs.declared.Source.{Source}
 use Rattle.scope.specs.declared.RunCell.{RunCell}
@@ -32,6 +34,14 @@ use Rattle.saved.specs.declared.Loaded.the-variants.{Of, Refused as Refused·lo
 use Rattle.saved.specs.File.{savingTests, readingTests}
 use Rattle.saved.specs.Promise.{SavingPromise, ReadingPromise}
 use Rattle.saved.proofs.Promises.{refuse-saving, grant-saving, refuse-reading, grant-reading}
+use Rattle.sources.specs.Lists.{periodsOf, weightsOf}
+use Rattle.text.specs.declared.Answer.{Answer}
+use Rattle.text.specs.declared.Answer.the-variants.{Read, Refused as Refused·text}
+use Rattle.text.specs.declared.Input.{Input}
+use Rattle.text.specs.Form.{Content}
+use Rattle.text.specs.Promise.{Reads, replyTo, handed, padded, saysText, TextPromise}
+use Rattle.report.specs.declared.Output.{Output}
+use Rattle.report.specs.Report.{reportOf, blank, ReportPromise}
 use Rattle.demands.proofs.Rendered.{judged}
 
 -- Some reply fits the vectors call.
@@ -106,3 +116,26 @@ reading-exists file map = go (judged (readingTests file map))
     go : Passes (readingTests file map) ⊎ ((n : ℕ) × Fails (readingTests file map) n) → (answer : Loaded) × (after : List ℕ) × ReadingPromise file map answer after
     go (inl p) = (Of _, _, grant-reading p refl refl)
     go (inr f) = (Refused·loaded (f .0), map, refuse-reading (f .1))
+
+-- ---- text and report, by what the text says
+
+abbrev answer : Said Run → Answer
+answer (answered run) = Read run
+answer (refused n) = Refused·text n
+
+says-answer : (s : Said Run) → saysText (answer s) ≡ s
+says-answer (answered run) = refl
+says-answer (refused n) = refl
+
+-- Some reply fits a text that says this, or that has not the form.
+pub text-exists : (text : List ℕ) (o : Option Content) → Reads text o → (input : Input) × TextPromise text input
+text-exists text o r = (
+  record { answer = answer (replyTo o); count = length (handed o); periods = padded (periodsOf (handed o)); weights = padded (weightsOf (handed o)) },
+  record { content = o; reads = r; says = says-answer (replyTo o); counts = refl; periods = refl; weights = refl },
+)
+
+-- And some output.
+pub report-exists : (text : List ℕ) (o : Option Content) → Reads text o → (output : Output) × ReportPromise text output
+report-exists text o r =
+    let bytes = reportOf o in
+    (record { length = length bytes; bytes = bytes ++ drop (length bytes) blank }, record { content = o; reads = r; says = record { counts = refl; begins = refl } })

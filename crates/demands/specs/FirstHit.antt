@@ -1,5 +1,6 @@
 -- Demand 2 and document 01, "First hit from a cell on": which cell the first hit is, by the rule alone.
-use Prim.Native.Nat.{ℕ, _≤_, _<_}
+use Prim.Native.Nat.{ℕ, _+_, _≤_, _<_}
+use mathlib.Core.Path.{_≡_}
 use Rattle.scope.specs.declared.Run.{Run}
 use Rattle.scope.specs.declared.Source.{Source}
 use Rattle.scope.specs.Run.{cellsOf, lineOf, offsetOf}
@@ -19,3 +20,8 @@ pub record IsFirstHit (run : Run) (source : Source) (x y : ℕ) : Type 0 where
 -- "none": no cell from x on is hit.
 abbrev pub NoHitFrom : Run → Source → ℕ → Type 0
 NoHitFrom run source x = (z : ℕ) → x ≤ z → z < cellsOf run → HitsCell run source z → ⊥
+
+-- "a line may hold several hits, spaced p apart": the next hit after x on its line is p cells on, if that is on the line still.
+pub record NextOnLine (run : Run) (source : Source) (x : ℕ) : Type 0 where
+  pub hit : lineOf run (x + source .period) ≡ lineOf run x → HitsCell run source (x + source .period)
+  pub none : (k : ℕ) → 0 < k → k < source .period → lineOf run (x + k) ≡ lineOf run x → HitsCell run source (x + k) → ⊥

@@ -3,6 +3,7 @@ use Prim.Native.Nat.{ℕ, zero, suc, _+_, _-_, _*_, _%_, _≤_, _<_}
 use mathlib.Core.Path.{_≡_}
 use mathlib.Core.Logic.{_⊎_, _≢_}
 use mathlib.Core.List.{List, [], _∷_, _++_}
+use mathlib.Core.Option.{none}
 use lib.ListN.{length, getD}
 use Rattle.scope.specs.declared.Run.{Run}
 use Rattle.scope.specs.declared.Source.{Source}
@@ -12,6 +13,7 @@ use Rattle.sources.specs.Entry.{Entry, entriesOf}
 use Rattle.saved.specs.Block.{fourAt, checkOf}
 use Rattle.saved.specs.File.{blockAt, runOf, blocksFor, fileLength}
 use Rattle.text.specs.Form.{Content, Spells}
+use Rattle.text.specs.Promise.{Reads}
 
 -- A row of the table: "no." and "given when".
 pub record Row : Type 1 where
@@ -85,12 +87,18 @@ sourcesTable (entry ∷ entries) =
     7 given BadWeight (entry .weight) ∷
     sourcesTable entries
 
--- The same of two lists as long as each other: the least place, counted from 0, whose source breaks 4 or 7; 4 if it breaks 4.
+-- The number at a place of a list, counted from 1 as the places of sources are.
+abbrev pub atPlace : List ℕ → ℕ → ℕ
+atPlace numbers zero = 0
+atPlace numbers (suc k) = getD numbers k 0
+
+-- The same of two lists as long as each other: the least place whose source breaks 4 or 7; 4 if it breaks 4.
 pub record AtFault (periods weights : List ℕ) (n : ℕ) : Type 0 where
   pub place : ℕ
-  pub inside : place < length periods
-  pub least : (k : ℕ) → k < place → BadPeriod (getD periods k 0) ⊎ BadWeight (getD weights k 0) → ⊥
-  pub breaks : Says (4 given BadPeriod (getD periods place 0) ∷ 7 given BadWeight (getD weights place 0) ∷ []) n
+  pub from : 1 ≤ place
+  pub inside : place ≤ length periods
+  pub least : (k : ℕ) → 1 ≤ k → k < place → BadPeriod (atPlace periods k) ⊎ BadWeight (atPlace weights k) → ⊥
+  pub breaks : Says (4 given BadPeriod (atPlace periods place) ∷ 7 given BadWeight (atPlace weights place) ∷ []) n
 
 -- "Map: 1, 2, 3, 10, then source by source 4 before 7, then 9."
 abbrev pub mapTable : Run → (periods weights map : List ℕ) → List Row
@@ -149,10 +157,7 @@ textTable content =
     12 given ((64 < length (content .entries)) ⊎ (65536 < cellsOf (content .run))) ∷
     sourcesTable (content .entries)
 
--- "Anything else in the text is refused 11": no run and sources are what it says.
-abbrev pub NotOfForm : List ℕ → Type 0
-NotOfForm text = (content : Content) → Spells text content → ⊥
-
--- The table of a text says n: 11 if it has not the form, else what the table of its content says.
+-- The table of a text says n. "Anything else in the text is refused 11": no run and sources are what it says; else what the
+-- table of its content says.
 abbrev pub SaysOfText : List ℕ → ℕ → Type 0
-SaysOfText text n = ((11 ≡ n) × NotOfForm text) ⊎ ((content : Content) × Spells text content × Says (textTable content) n)
+SaysOfText text n = ((11 ≡ n) × Reads text none) ⊎ ((content : Content) × Spells text content × Says (textTable content) n)

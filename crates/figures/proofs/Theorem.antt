@@ -1,22 +1,19 @@
 -- "Starred figures are covered by one statement over one table": `figures-hold`. Assumes nothing.
-use Prim.Native.Nat.{ℕ, zero, suc, _<_}
-use native.Mathlib.Nat.{le-of-suc-le-suc, not-suc-le-zero}
 use native.Mathlib.Omega.{arith}
-use mathlib.Core.Path.{refl}
-use mathlib.Core.List.{List, [], _∷_}
-use lib.ListN.{length, getD}
+use mathlib.Core.Path.{_≡_, refl, sym, subst}
+use mathlib.Core.Logic.{_⊎_, inl, inr}
+use mathlib.Core.List.{List, [], _∷_, List·Memᴰ, List·Memᴰ·not-nil, List·Memᴰ·cases-cons}
 use Rattle.scope.specs.Run.{linesOf, cellsOf, cellOf, lineOf, offsetOf}
 use Rattle.scope.specs.Hit.{instant, isHit, hitsAmong, hitsFrom}
 use Rattle.scope.specs.Refusal.{complaint, number, windowTests, lineTests, periodTests, weightTests, runTests, sourceTests}
 use Rattle.sources.specs.Entry.{entriesOf, entryTests, listTests}
 use Rattle.map.specs.Sum.{raised}
 use Rattle.map.specs.Map.{mapTests, weightAt, added}
-use Rattle.vectors.specs.declared.Steps.the-variants.{Refused}
 use Rattle.vectors.specs.Promise.{VectorsPromise, vectorsTests}
 use Rattle.saved.specs.Block.{four, fourAt, weighted, checkOf, filled, sealed, blockOf}
 use Rattle.saved.specs.File.{heading, firstJoined, cellBlocks, blocksFor, fileLength, fileOf}
 use Rattle.hits.specs.Promise.{firstHitTests}
-use Rattle.figures.specs.Table.{Figure, vectors, hits, mapped, saved, Holds, lines-1-11, hits-1-11, example, exampleMap, table}
+use Rattle.figures.specs.Table.{Figure, hits, mapped, saved, Holds, lines-1-11, hits-1-11, example, exampleMap, table}
 use Rattle.figures.proofs.Rows.{vectors-row, pair, gcd-divisor, gcd-zero, hits-row, map-row, saved-row}
 
 -- every row of a list holds
@@ -80,11 +77,14 @@ rows = (
   ),
 )
 
-at : (figures : List Figure) (default : Figure) → All figures → (k : ℕ) → k < length figures → Holds (getD figures k default)
-at [] default a k h = absurd (not-suc-le-zero h)
-at (figure ∷ figures) default a zero h = a .0
-at (figure ∷ figures) default a (suc k) h = at figures default (a .1) k (le-of-suc-le-suc h)
+each : (figures : List Figure) → All figures → (figure : Figure) → List·Memᴰ figure figures → Holds figure
+each [] all figure m = absurd (List·Memᴰ·not-nil m)
+each (first ∷ rest) all figure m = go (each rest (all .1) figure) (List·Memᴰ·cases-cons m)
+  where
+    go : (List·Memᴰ figure rest → Holds figure) → (figure ≡ first) ⊎ List·Memᴰ figure rest → Holds figure
+    go later (inl e) = subst Holds (sym e) (all .0)
+    go later (inr n) = later n
 
 -- Each figure of the table holds: the promise at the row's inputs admits an outcome exactly if it is the row's figure.
-pub figures-hold : (k : ℕ) → k < length table → Holds (getD table k (vectors 0 0 0 (Refused 0)))
-figures-hold k h = at table (vectors 0 0 0 (Refused 0)) rows k h
+pub figures-hold : (figure : Figure) → List·Memᴰ figure table → Holds figure
+figures-hold = each table rows

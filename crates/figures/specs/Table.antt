@@ -7,9 +7,9 @@ use lib.IntN.{ℤ, pos}
 use lib.ListN.{length, replicate}
 use Rattle.scope.specs.declared.Run.{Run}
 use Rattle.scope.specs.Run.{cellOf}
-use Rattle.vectors.specs.declared.Vector.{Vector}
 use Rattle.vectors.specs.declared.Steps.{Steps}
 use Rattle.vectors.specs.declared.Steps.the-variants.{Pair, Single, Refused}
+use Rattle.vectors.specs.Sequence.{vector}
 use Rattle.vectors.specs.Promise.{VectorsPromise}
 use Rattle.map.specs.declared.Added.{Added}
 use Rattle.map.specs.declared.Added.the-variants.{Done as Done·map}
@@ -57,10 +57,6 @@ Holds (saved run cells size first second) =
 -- An offset below 0, as in -3.
 abbrev pub minus : ℕ → ℤ
 minus n = lib.IntN.negℤ (pos n)
-
--- A vector, as in (-1, 2).
-abbrev pub vector : ℤ → ℕ → Vector
-vector offset line = record { offset = offset; line = line }
 
 -- A place, as in (-3,2).
 abbrev pub place : ℤ → ℕ → HitPlace

@@ -1,19 +1,21 @@
 -- 002's proposition 2, told of the hits of a source in a window: where a pair exists, the next hit after (i, j) is a step
--- (α, β), a step (γ, δ) or both on, and just one of its cases applies. Assumes nothing.
-use Prim.Native.Nat.{ℕ, _+_, _-_, _/_, _%_, _≤_, _<_}
+-- (α, β), a step (γ, δ) or both on, and just one of its cases applies. Where there is a single vector, it leads to the next hit.
+-- Assumes nothing.
+use Prim.Native.Nat.{ℕ, _+_, _-_, _*_, _/_, _%_, _≤_, _<_}
+use native.Mathlib.Nat.{mul-div-cancel'}
 use native.Mathlib.Omega.{arith}
 use mathlib.Core.Path.{_≡_, refl, ap}
 use lib.IntN.{ℤ, pos, negℤ, natAbs, _+ℤ_, _-ℤ_}
 use lib.Signed.{_≤ℤ_, _<ℤ_}
 use Rattle.signed.proofs.Parts.{parts, sum, apart, neg-up, neg-dn}
 use Rattle.lattice.proofs.First.{Next}
-use Rattle.lattice.proofs.Next.{next-left, next-right, next-both}
+use Rattle.lattice.proofs.Next.{next-left, next-right, next-both, next-single}
 use Rattle.vectors.specs.declared.Vector.{Vector}
-use Rattle.vectors.specs.Vectors.{IsPair}
+use Rattle.vectors.specs.Vectors.{IsPair, IsSingle}
 use Rattle.vectors.proofs.Bridge.{magnitudes, nonneg}
 use Rattle.scope.specs.declared.Run.{Run}
 use Rattle.scope.specs.declared.Source.{Source}
-use Rattle.scope.specs.Run.{Valid}
+use Rattle.scope.specs.Run.{Valid, ValidSource}
 use Rattle.scope.specs.Hit.{Hits}
 use Rattle.scope.proofs.Limits.{halves}
 use Rattle.scope.proofs.Hits.{hits-on}
@@ -106,3 +108,10 @@ proposition-two {run} {source} {left} {right} {i} {j} v pair w h =
       by-both = λ t u. let a = below t in let b = above u in hop v source i ((i +ℤ left .offset) +ℤ right .offset) is h (next-both (m .pair) {e = f .d + C - A} a b (omega arith)) (moved-both i (left .offset) (right .offset) (run .window / 2) A C (f .d) is α γ (omega arith));
       one = λ t u. let a = low t in let b = high u in omega arith;
     }
+
+-- "A single vector leads from each hit to the next."
+pub single-next : {run : Run} {source : Source} {only : Vector} {i : ℤ} {j : ℕ} → Valid run → ValidSource source → IsSingle (source .period) (run .interval % source .period) (run .window) only → InWindow run i → Hits run source i j → NextHit run source j i (j + only .line)
+single-next {source = source} {only} {i} v s one w h =
+    let f = far v source w in
+    let whole : one .g * only .line ≡ source .period = rw (one .rises) (mul-div-cancel' (one .g) (one .is-gcd .divides-right)) in
+    hop v source i i (f .is) h (next-single (s .ticks) (one .is-gcd) whole (one .wide) (f .below)) (f .is)

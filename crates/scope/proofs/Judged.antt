@@ -1,10 +1,10 @@
 -- How a call's complaint follows from its tests, taken one after the other, and what reply it makes. Assumes nothing.
-use Prim.Native.Nat.{ℕ}
+use Prim.Native.Nat.{ℕ, _≤_}
 use mathlib.Core.Path.{_≡_, refl, sym, ap, _∙_}
 use mathlib.Core.Bool.{Bool, true, false}
 use mathlib.Core.Option.{Option, some, none}
 use native.Mathlib.Omega.{arith}
-use Rattle.scope.specs.Refusal.{Reason, call, listed, Complaint, Tests, _when_, _andThen_, ofSource, nothing, complaint, number}
+use Rattle.scope.specs.Refusal.{Reason, Window, Lines, Interval, Period, Remainder, WiderThanPeriod, Weight, Start, Room, Lists, Text, TooMany, Blocks, Check, Layout, call, listed, Complaint, Tests, _when_, _andThen_, ofSource, nothing, complaint, number}
 use Rattle.scope.specs.Reply.{refused, answered, reply, stored, verdict}
 use Rattle.scope.specs.declared.Verdict.{Verdict}
 use Rattle.scope.specs.declared.Verdict.the-variants.{Fine, Refused}
@@ -103,3 +103,27 @@ said-refused {A} {n} tests b e = go (complaint tests) refl e
     go : (o : Option Complaint) → complaint tests ≡ o → refused n ≡ reply o b → Fails tests n
     go none i e = absurd (let z : _≡_ {A = ℕ} 0 1 = cc in omega arith)
     go (some c) i e = record { blames = c; is = i; numbered = cc }
+
+-- ---- "The refusal numbers": none is 0, so that 0 can stand for "not refused"
+
+pub number-some : (reason : Reason) → 1 ≤ number reason
+unfolding number
+number-some Window = omega arith
+number-some Lines = omega arith
+number-some Interval = omega arith
+number-some Period = omega arith
+number-some Remainder = omega arith
+number-some WiderThanPeriod = omega arith
+number-some Weight = omega arith
+number-some Start = omega arith
+number-some Room = omega arith
+number-some Lists = omega arith
+number-some Text = omega arith
+number-some TooMany = omega arith
+number-some Blocks = omega arith
+number-some Check = omega arith
+number-some Layout = omega arith
+
+pub refused-some : {A : Type 0} {n : ℕ} (o : Option Complaint) (answer : A) → refused n ≡ reply o answer → 1 ≤ n
+refused-some none answer e = absurd (let z : _≡_ {A = ℕ} 0 1 = cc in omega arith)
+refused-some {n = n} (some c) answer e = let z : n ≡ number (c .reason) = cc in omega (arith, number-some (c .reason))
