@@ -5,3 +5,4 @@ pub mod Mapped
 pub mod Longest
 pub mod Outputs
 pub mod Unique
+pub mod Example

@@ -1,0 +1,44 @@
+-- Document 01, "The list program": "The input .. gives, whole", by computing. Assumes nothing.
+use native.Mathlib.Omega.{arith}
+use mathlib.Core.Path.{_≡_, refl, ap, _∙_}
+use mathlib.Core.List.{[], _∷_}
+use mathlib.Core.Option.{some}
+use lib.ListN.{take}
+use Rattle.decimal.specs.Digits.{digitsWithin, digits}
+use Rattle.scope.specs.Run.{linesOf, cellsOf, lineOf, offsetOf}
+use Rattle.scope.specs.Hit.{instant, isHit, hitsAmong, hitsFrom}
+use Rattle.scope.specs.Refusal.{complaint, windowTests, lineTests, runTests, periodTests, weightTests}
+use Rattle.sources.specs.Entry.{entryTests, listTests}
+use Rattle.sources.proofs.Entries.{entry}
+use Rattle.map.specs.Sum.{raised}
+use Rattle.map.specs.Map.{weightAt, added}
+use Rattle.text.specs.Form.{fields, line, srcLines, textOf, Content, Spells}
+use Rattle.text.specs.Promise.{textTests}
+use Rattle.text.proofs.Unique.{reads-unique}
+use Rattle.report.specs.declared.Output.{Output}
+use Rattle.report.specs.Report.{runReport, entryReport, srcReport, cellReport, mapReport, above, endReport, zeros, reportedMap, cellsReport, wholeReport, printed, reportOf, ReportPromise}
+use Rattle.report.specs.Example.{exampleInput, exampleOutput}
+use Rattle.report.proofs.Unique.{output-prints}
+
+-- what the input says
+abbrev example : Content
+example = record { run = record { window = 4; interval = 10; first = 1; last = 5 }; entries = entry 7 60 ∷ entry 3 200 ∷ [] }
+
+spelled : Spells exampleInput example
+unfolding exampleInput textOf srcLines line fields digits digitsWithin
+spelled = record {
+  spelled = refl;
+  runSmall = (omega arith, (omega arith, (omega arith, (omega arith, tt))));
+  allSmall = ((omega arith, (omega arith, tt)), ((omega arith, (omega arith, tt)), tt));
+  short = omega arith;
+}
+
+reported : reportOf (some example) ≡ exampleOutput
+unfolding exampleOutput reportOf printed wholeReport runReport srcReport entryReport cellsReport mapReport endReport reportedMap cellReport above zeros line fields digits digitsWithin textTests runTests windowTests lineTests periodTests weightTests entryTests listTests complaint added raised weightAt hitsFrom hitsAmong isHit instant lineOf offsetOf cellsOf linesOf
+reported = refl
+
+-- An output that fits the example's input prints the example's lines.
+pub example-printed : (output : Output) → ReportPromise exampleInput output → take (output .length) (output .bytes) ≡ exampleOutput
+example-printed output h =
+    let p = output-prints h in
+    p .is ∙ ap reportOf (reads-unique exampleInput (p .content) (some example) (p .reads) spelled) ∙ reported
