@@ -10,8 +10,8 @@ ghost use Rattle.scope.specs.Run.{Valid, ValidSource, cellsOf};
 ghost use Rattle.hits.specs.List.{ListsFrom};
 
 // Inner step. The hits from `start` on, written until there are no more or the room is full: line by line, and on a line at
-// offsets that lie a period apart. `at` is the first hit of the line, from which the walk goes on to the next line that has
-// one; `cell` and `offset` are those of the hit that is written next.
+// offsets that lie a period apart. `at` is the first hit of the line and `to` that of the next line that has one, worked out
+// before the line is written, so that the processor has it by then; `cell` and `offset` are those of the hit that is next.
 pub fn write_hits(run: Run, source: Source, start: u64, room: &mut [u64]) -> Listing
     requires { ⌜ Valid run × ValidSource source × (start < cellsOf run) ⌝ }
     ensures { λ r. ⌜ ListsFrom run source start (now (room .entry)) r (now (room .exit)) ⌝ }
@@ -27,6 +27,7 @@ pub fn write_hits(run: Run, source: Source, start: u64, room: &mut [u64]) -> Lis
     let mut next = all;
     let mut n: usize = 0;
     'lines: while cell < all {
+        let to = walk.next(at);
         while offset < end {
             if n == room.len() {
                 next = cell;
@@ -37,9 +38,9 @@ pub fn write_hits(run: Run, source: Source, start: u64, room: &mut [u64]) -> Lis
             offset += period as i64;
             cell += period as u64;
         }
-        at = walk.next(at);
-        cell = at.cell;
-        offset = at.offset;
+        at = to;
+        cell = to.cell;
+        offset = to.offset;
     }
     if next < all {
         return Listing::More(n, RunCell(next));

@@ -1,12 +1,12 @@
 -- `hits::list::write_hits` meets its contract.
 -- The outer loop's invariant: at the head of a line the hits written and those from `cell` on are all from the start on
--- (Head); the inner loop's: the same within the line (Inside). Each is told of every run and source for which it held where
--- the loop began, since the code does not hold them any more. Until the room is full, `next` stays past the last cell.
--- The measures: what is left of the run from `cell` on, and of the line. Assumes nothing.
+-- (Head); the inner loop's: the same within the line (Inside). Each is told of every run, source and line for which it held
+-- where the loop began, since the code does not hold them any more. Until the room is full, `next` stays past the last cell.
+-- The measure of both: what is left of the run from `cell` on. Assumes nothing.
 use borrow.Author.Needs.{needs, scaled-fits}
 use native.Mathlib.Omega.{arith}
 use native.Mathlib.Nat.{mod-lt}
-use Prim.Native.Nat.{ℕ, _+_, _-_, _*_, _/_, _%_, _<_, _^_}
+use Prim.Native.Nat.{ℕ, _-_, _*_, _/_, _%_, _<_, _^_}
 use mathlib.Core.Path.{_≡_, refl, _∙_}
 use mathlib.Core.Logic.{⊎-elim}
 use mathlib.Core.List.{List}
@@ -18,6 +18,7 @@ use Rattle.scope.specs.declared.Run.{Run}
 use Rattle.scope.specs.declared.Source.{Source}
 use Rattle.scope.specs.Run.{offsetOf}
 use Rattle.scope.proofs.Limits.{cells-few}
+use Rattle.hits.specs.declared.walk.Place.{Place}
 use Rattle.hits.proofs.Walks.{fits-at}
 use Rattle.hits.proofs.Kept.{kept-start}
 use Rattle.hits.proofs.Lines.{Fixed, Head, Inside, enter, within, beyond, walking, cell-in, offset-fits, write, leave, Ended, ran-out, filled, says-more, says-done, gets-on}
@@ -25,11 +26,11 @@ use Rattle.hits.proofs.list.write_hits.Statement.{statement}
 use Rattle.hits.proofs.list.write_hits.Tie as tie
 
 abbrev Inv-loop : tie.InvT-loop
-Inv-loop start room₀ all window period end walk cell₀ offset₀ at next₀ n₀ room cell offset next n =
-    (next ≡ next₀) × ((run : Run) (source : Source) (before : List ℕ) → Fixed run source all period end walk → Inside run source start before room₀ n₀ cell₀ offset₀ at → Inside run source start before room n cell offset at)
+Inv-loop start room₀ all window period end walk cell₀ offset₀ next₀ n₀ to room cell offset next n =
+    (next ≡ next₀) × ((run : Run) (source : Source) (before : List ℕ) (at : Place) → Fixed run source all period end walk → Inside run source start before room₀ n₀ cell₀ offset₀ at → Inside run source start before room n cell offset at)
 
 abbrev μ-loop : tie.MeasureT-loop
-μ-loop start room₀ all window period end walk cell₀ offset₀ at next₀ n₀ room cell offset next n = (at .cell / window + 1) * window - cell
+μ-loop start room₀ all window period end walk cell₀ offset₀ next₀ n₀ to room cell offset next n = all - cell
 
 abbrev Inv-lines : tie.InvT-lines
 Inv-lines start room₀ all window period end walk cell₀ offset₀ at₀ next₀ n₀ room cell offset at next n =
@@ -80,19 +81,23 @@ begun c =
 head : (c : tie.At-lines Inv-loop μ-loop Inv-lines μ-lines) → let a = c .before .before .before .before .before .before .before .before .args in Head (a .run) (a .source) (a .start) (a .room .now) (c .lines .room) (c .lines .n) (c .lines .cell) (c .lines .offset) (c .lines .at)
 head c = let p = c .before in let a = p .before .before .before .before .before .before .before .args in c .lines .inv .1 (a .run) (a .source) (fixed p) (begun p)
 
-inside : (c : tie.At-loop Inv-loop μ-loop Inv-lines μ-lines) → let l = c .before .before in let a = l .before .before .before .before .before .before .before .before .args in Inside (a .run) (a .source) (a .start) (a .room .now) (c .loop .room) (c .loop .n) (c .loop .cell) (c .loop .offset) (l .lines .at)
+-- into the line
+entered : (c : tie.In-lines Inv-loop μ-loop Inv-lines μ-lines) → let l = c .before in let a = l .before .before .before .before .before .before .before .before .args in Inside (a .run) (a .source) (a .start) (a .room .now) (l .lines .room) (l .lines .n) (l .lines .cell) (l .lines .offset) (l .lines .at)
+entered c = enter (fixed (c .before .before)) (c .lines-test .taken) (head (c .before))
+
+inside : (c : tie.At-loop Inv-loop μ-loop Inv-lines μ-lines) → let l = c .before .before .before in let a = l .before .before .before .before .before .before .before .before .args in Inside (a .run) (a .source) (a .start) (a .room .now) (c .loop .room) (c .loop .n) (c .loop .cell) (c .loop .offset) (l .lines .at)
 inside c =
-    let l = c .before .before in
+    let l = c .before .before .before in
     let p = l .before in
     let a = p .before .before .before .before .before .before .before .args in
-    c .loop .inv .1 (a .run) (a .source) (a .room .now) (fixed p) (enter (fixed p) (c .before .lines-test .taken) (head l))
+    c .loop .inv .1 (a .run) (a .source) (a .room .now) (l .lines .at) (fixed p) (entered (c .before .before))
 
 -- there is room at n, and little of it
 free : (c : tie.Else1 Inv-loop μ-loop Inv-lines μ-lines) → (c .before .before .loop .n < length (c .before .before .loop .room)) × (length (c .before .before .loop .room) * 8 < 2 ^ 63)
 free c =
     let l = c .before .before in
     let k = inside l .kept in
-    (omega (arith, k .count, c .if1 .left), rw (k .same) (room-small (l .before .before .before .before .before .before .before .before .before .before)))
+    (omega (arith, k .count, c .if1 .left), rw (k .same) (room-small (l .before .before .before .before .before .before .before .before .before .before .before)))
 
 -- after the loops, whichever way they were left
 ended : (c : tie.Left-lines Inv-loop μ-loop Inv-lines μ-lines) → let a = c .before .before .before .before .before .before .before .before .before .args in Ended (a .run) (a .source) (a .start) (a .room .now) (c .lines-test .room) (c .lines-test .n) (c .lines-test .next)
@@ -102,8 +107,8 @@ ended c =
     ⊎-elim
     (λ w. rw (w .1, w .5, w .4 ∙ l .lines .inv .0) (ran-out f (head l) (w .0 .left)))
     (λ w.
-    let i = inside (record { before = record { before = l; lines-test = w .0 }; loop = w .1 }) in
-    rw (w .4, w .8, w .7) (filled f i (within f i (w .2 .taken)) (w .3 .taken)))
+    let i = inside (record { before = record { before = record { before = l; lines-test = w .0 }; next = w .1 }; loop = w .2 }) in
+    rw (w .5, w .9, w .8) (filled f i (within f i (w .3 .taken)) (w .4 .taken)))
     (c .lines-test .came)
 
 cells-requires : tie.Need-cells-requires Inv-loop μ-loop Inv-lines μ-lines
@@ -140,8 +145,11 @@ place-of-requires c κs = let s = c .before .before .before .before .before .bef
 lines-holds : tie.Need-lines-holds Inv-loop μ-loop Inv-lines μ-lines
 lines-holds c = (refl, λ run source f h. h)
 
+next-requires : tie.Need-next-requires Inv-loop μ-loop Inv-lines μ-lines
+next-requires c κs = walking (fixed (c .before .before)) (entered c)
+
 loop-holds : tie.Need-loop-holds Inv-loop μ-loop Inv-lines μ-lines
-loop-holds c = (refl, λ run source before f h. h)
+loop-holds c = (refl, λ run source before at f h. h)
 
 mul-room : tie.Need-mul-room Inv-loop μ-loop Inv-lines μ-lines
 mul-room c = scaled-fits (c .before .before .loop .n) (length (c .before .before .loop .room)) 8 (free c .0) (free c .1)
@@ -158,7 +166,7 @@ cast-offset c = search needs
 add-offset : tie.Need-add-offset Inv-loop μ-loop Inv-lines μ-lines
 add-offset c =
     let l = c .before .before in
-    let p = l .before .before .before in
+    let p = l .before .before .before .before in
     offset-fits (fixed p) (inside l) (within (fixed p) (inside l) (c .before .loop-test .taken))
 
 cast-cell : tie.Need-cast-cell Inv-loop μ-loop Inv-lines μ-lines
@@ -167,7 +175,7 @@ cast-cell c = search needs
 add-cell : tie.Need-add-cell Inv-loop μ-loop Inv-lines μ-lines
 add-cell c =
     let l = c .before .before in
-    let p = l .before .before .before in
+    let p = l .before .before .before .before in
     let f = fixed p in
     let low = cell-in f (inside l) (within f (inside l) (c .before .loop-test .taken)) in
     record { fits = omega (arith, cells-few (f .valid), f .source-valid .fits) }
@@ -175,43 +183,39 @@ add-cell c =
 loop-less : tie.Need-loop-less Inv-loop μ-loop Inv-lines μ-lines
 loop-less c =
     let l = c .before .before in
-    let p = l .before .before .before in
-    let f = fixed p in
-    let i = inside l in
-    let in′ = within f i (c .before .loop-test .taken) in
-    omega (arith, i .cell-is, f .source-valid .ticks)
+    let f = fixed (l .before .before .before .before) in
+    let low = cell-in f (inside l) (within f (inside l) (c .before .loop-test .taken)) in
+    omega (arith, f .all-is, f .source-valid .ticks)
 
 loop-again : tie.Need-loop-again Inv-loop μ-loop Inv-lines μ-lines
 loop-again c = let l = c .before .before in (
   l .loop .inv .0,
-  λ run source before f h.
-      let i = l .loop .inv .1 run source before f h in
+  λ run source before at f h.
+      let i = l .loop .inv .1 run source before at f h in
       write f i (within f i (c .before .loop-test .taken)) (free c .0),
 )
 
-next-requires : tie.Need-next-requires Inv-loop μ-loop Inv-lines μ-lines
-next-requires c κs = let l = c .before in walking (fixed (l .before .before .before)) (inside l)
-
 lines-less : tie.Need-lines-less Inv-loop μ-loop Inv-lines μ-lines
 lines-less c =
-    let l = c .before .before .before in
-    let h = l .before .before in
+    let t = c .before .before .before .before in
+    let h = t .before in
     let p = h .before in
     let f = fixed p in
     let a = p .before .before .before .before .before .before .before .args in
-    let r = head h .running (omega (arith, l .before .lines-test .taken, f .all-is)) in
-    let on = gets-on (f .valid) r (c .before .next .ensures .1 (a .run) (a .source) (f .valid) (f .source-valid) (f .leads) (r .stands)) in
-    omega (arith, l .before .lines-test .taken)
+    let r = head h .running (omega (arith, t .lines-test .taken, f .all-is)) in
+    let on = gets-on (f .valid) r (c .before .before .before .next .ensures .1 (a .run) (a .source) (f .valid) (f .source-valid) (f .leads) (r .stands)) in
+    omega (arith, t .lines-test .taken)
 
 lines-again : tie.Need-lines-again Inv-loop μ-loop Inv-lines μ-lines
 lines-again c =
-    let e = c .before .before in
+    let e = c .before in
     let l = e .before in
-    let h = l .before .before in (
+    let t = l .before .before in
+    let h = t .before in (
       l .loop .inv .0 ∙ h .lines .inv .0,
       λ run source f b.
-          let i = l .loop .inv .1 run source _ f (enter f (l .before .lines-test .taken) (h .lines .inv .1 run source f b)) in
-          leave f i (beyond f i (e .loop-test .left)) (c .before .next .ensures .1 run source (f .valid) (f .source-valid) (f .leads) (i .stands)),
+          let i = l .loop .inv .1 run source _ (h .lines .at) f (enter f (t .lines-test .taken) (h .lines .inv .1 run source f b)) in
+          leave f i (beyond f i (e .loop-test .left)) (l .before .next .ensures .1 run source (f .valid) (f .source-valid) (f .leads) (i .stands)),
     )
 
 same-length : tie.Need-same-length Inv-loop μ-loop Inv-lines μ-lines
@@ -244,6 +248,7 @@ write-hits-spec =
     offset-at-requires-2
     place-of-requires
     lines-holds
+    next-requires
     loop-holds
     mul-room
     slice-write-room
@@ -254,7 +259,6 @@ write-hits-spec =
     add-cell
     loop-less
     loop-again
-    next-requires
     lines-less
     lines-again
     same-length

@@ -1,6 +1,6 @@
 -- `hits::search::seek` meets its contract: from a stage to the next, the point comes nearer and passes over nothing.
 -- The measure is m, which falls from a stage to the next. Assumes nothing.
-use Prim.Native.Nat.{ℕ, _<_}
+use Prim.Native.Nat.{ℕ}
 use native.Mathlib.Omega.{arith}
 use Rattle.hits.specs.declared.search.Point.{Point}
 use Rattle.hits.specs.declared.search.Stage.{Stage}
