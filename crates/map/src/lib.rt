@@ -23,7 +23,7 @@ pub enum Added {
 }
 
 // Maps longer than this are gone through in blocks by the sources with short periods.
-const LONG: usize = 1048576;
+const LONG: usize = 262144;
 // So many bytes of the map are in a block, at most.
 const BLOCK: u32 = 65536;
 // A source with a shorter period comes back to the same bytes of memory so often that blocks pay.
