@@ -236,17 +236,12 @@ fn refusal(faults: u64, count: usize, state: u64) -> u8 {
     if has(faults, SOURCES) || has(faults, CELLS) {
         return 12;
     }
-    if has(faults, PERIOD) {
-        if !has(faults, WEIGHT)
-            || faulty_period_at(count, state) <= faulty_weight_at(count, state)
-        {
-            return 4;
-        }
-    }
-    if has(faults, WEIGHT) {
-        return 7;
-    }
-    0
+    faults::source_refusal(
+        has(faults, PERIOD),
+        faulty_period_at(count, state),
+        has(faults, WEIGHT),
+        faulty_weight_at(count, state),
+    )
 }
 
 // A run with these faults. Without a fault of its lines or its window it has 65,536 cells or fewer, or, where that is the
