@@ -4,6 +4,7 @@ use map::Added;
 use scope::Run;
 use trying::draw;
 use trying::draw::Block;
+use trying::draw::Choice;
 use trying::numbers;
 use trying::random;
 use trying::reference;
@@ -41,27 +42,14 @@ fn draw_run(state: u64) -> Run {
     }
 }
 
-// A period of a source that is added block by block; about 2,048, from where on it is not; above that; or of any length.
-fn draw_period(state: u64) -> u32 {
-    let s = random::next(state);
-    match state % 4 {
-        0 => 1 + random::below32(s, 2047),
-        1 => 2047 + random::below32(s, 2),
-        2 => 2048 + random::below32(s, 100000),
-        _ => 1 + random::below32(s, 2147483647),
-    }
-}
-
-// Draws a source for each place of two lists. The weights are small, so that few cells come to the ceiling.
-fn draw_sources(periods: &mut [u32], weights: &mut [u32], state: u64) {
-    let all = periods.len();
-    let mut s = state;
-    let mut k: usize = 0;
-    while k < all {
-        s = random::next(s);
-        numbers::put_number(periods, k, draw_period(s >> 9));
-        numbers::put_number(weights, k, 1 + random::below32(s, 60));
-        k += 1;
+// What sources are drawn from: periods up to 2,047, which are added block by block, multiples of 2,048, which are not, and periods
+// of any length. The weights are small, so that few cells come to the ceiling.
+fn choice() -> Choice {
+    Choice {
+        width: 2047,
+        factor: 2048,
+        longest: 2147483647,
+        heaviest: 60,
     }
 }
 
@@ -183,7 +171,7 @@ fn try_map(ledger: &mut [u64], map: &mut [u8], state: u64) {
         tally::count(ledger, DONE, false);
         return;
     }
-    draw_sources(&mut periods, &mut weights, state);
+    draw::draw_sources(&mut periods, &mut weights, choice(), state);
     compare_map(
         ledger,
         run,

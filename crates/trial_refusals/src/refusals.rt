@@ -174,13 +174,14 @@ fn map_refusal(faults: u64, state: u64) -> u8 {
     if has(faults, LISTS) {
         return 10;
     }
-    if has(faults, MAP_PERIOD) {
-        if !has(faults, WEIGHT) || faulty_period_at(state) <= faulty_weight_at(state) {
-            return 4;
-        }
-    }
-    if has(faults, WEIGHT) {
-        return 7;
+    let number = faults::source_refusal(
+        has(faults, MAP_PERIOD),
+        faulty_period_at(state),
+        has(faults, WEIGHT),
+        faulty_weight_at(state),
+    );
+    if number != 0 {
+        return number;
     }
     if has(faults, MAP_LENGTH) {
         return 9;

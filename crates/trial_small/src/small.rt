@@ -98,13 +98,8 @@ fn compare_maps(ledger: &mut [u64], run: Run, cells: usize, state: u64) -> bool 
     if 8 < count || 256 < cells {
         return false;
     }
-    draw::draw_sources(
-        &mut periods,
-        &mut weights,
-        run.window,
-        draw::factor(state),
-        state,
-    );
+    let choice = draw::small(run.window, draw::factor(state));
+    draw::draw_sources(&mut periods, &mut weights, choice, state);
     compare_map(
         ledger,
         run,

@@ -173,13 +173,8 @@ fn random_agrees(state: u64) -> bool {
     let case = draw::draw_case(state);
     let run = case.run;
     let count = random::below(state, 6) as usize;
-    draw::draw_sources(
-        &mut periods,
-        &mut weights,
-        run.window,
-        draw::factor(state),
-        state,
-    );
+    let choice = draw::small(run.window, draw::factor(state));
+    draw::draw_sources(&mut periods, &mut weights, choice, state);
     first_agrees(run, count, &periods, &weights, &mut sums)
 }
 

@@ -3,6 +3,8 @@
 use scope::Run;
 use text::Answer;
 use text::Input;
+use trying::draw;
+use trying::draw::Choice;
 use trying::faults;
 use trying::faults::has;
 use trying::numbers;
@@ -234,17 +236,12 @@ fn refusal(faults: u64, count: usize, state: u64) -> u8 {
     if has(faults, SOURCES) || has(faults, CELLS) {
         return 12;
     }
-    if has(faults, PERIOD) {
-        if !has(faults, WEIGHT)
-            || faulty_period_at(count, state) <= faulty_weight_at(count, state)
-        {
-            return 4;
-        }
-    }
-    if has(faults, WEIGHT) {
-        return 7;
-    }
-    0
+    faults::source_refusal(
+        has(faults, PERIOD),
+        faulty_period_at(count, state),
+        has(faults, WEIGHT),
+        faulty_weight_at(count, state),
+    )
 }
 
 // A run with these faults. Without a fault of its lines or its window it has 65,536 cells or fewer, or, where that is the
@@ -303,16 +300,13 @@ fn sources_for(faults: u64, state: u64) -> usize {
     }
 }
 
-// Draws sources without a fault.
-fn draw_sources(periods: &mut [u32], weights: &mut [u32], state: u64) {
-    let all = periods.len();
-    let mut s = state;
-    let mut k: usize = 0;
-    while k < all {
-        s = random::next(s);
-        numbers::put_number(periods, k, 1 + random::below32(s, 2147483647));
-        numbers::put_number(weights, k, 1 + random::below32(s >> 8, 255));
-        k += 1;
+// What sources without a fault are drawn from: the shortest periods, the longest, and all between.
+fn faultless() -> Choice {
+    Choice {
+        width: 2147483647,
+        factor: 1,
+        longest: 2147483647,
+        heaviest: 255,
     }
 }
 
@@ -416,7 +410,7 @@ fn try_sources(ledger: &mut [u64], faults: u64, state: u64, room: &mut [u8]) {
     let count = sources_for(faults, state);
     let period = faults::period(has(faults, PERIOD), state >> 32);
     let weight = faults::weight(has(faults, WEIGHT), state >> 36);
-    draw_sources(&mut periods, &mut weights, state);
+    draw::draw_sources(&mut periods, &mut weights, faultless(), state);
     numbers::put_number(&mut periods, faulty_period_at(count, state), period);
     numbers::put_number(&mut weights, faulty_weight_at(count, state), weight);
     try_first(ledger, faults, state, room, count, &periods, &weights);

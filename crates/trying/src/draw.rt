@@ -4,14 +4,37 @@ use crate::numbers;
 use crate::random;
 use scope::Run;
 
-// A period for a window: up to the window, the window itself, a multiple of a factor, or up to 200.
-fn period(state: u64, window: u32, factor: u32) -> u32 {
+// What sources are drawn from. Periods are up to the width, the width itself, one to six times the factor, or up to the longest;
+// weights are up to the heaviest.
+pub struct Choice {
+    pub width: u32,
+    pub factor: u32,
+    pub longest: u32,
+    pub heaviest: u32,
+}
+
+// What the sources of a small run are drawn from: the width is its window.
+pub fn small(window: u32, factor: u32) -> Choice {
+    Choice {
+        width: window,
+        factor,
+        longest: 200,
+        heaviest: 255,
+    }
+}
+
+// A number from 1 to a limit.
+fn up_to(state: u64, limit: u32) -> u32 {
+    numbers::add32(random::below32(state, limit), 1)
+}
+
+fn period(state: u64, choice: Choice) -> u32 {
     let s = random::next(state);
     match state % 4 {
-        0 => numbers::add32(random::below32(s, window), 1),
-        1 => window,
-        2 => numbers::times(factor, 1 + random::below32(s, 6)),
-        _ => 1 + random::below32(s, 200),
+        0 => up_to(s, choice.width),
+        1 => choice.width,
+        2 => numbers::times(choice.factor, up_to(s, 6)),
+        _ => up_to(s, choice.longest),
     }
 }
 
@@ -19,16 +42,16 @@ fn period(state: u64, window: u32, factor: u32) -> u32 {
 fn interval(state: u64, period: u32, factor: u32) -> u32 {
     let s = random::next(state);
     match state % 4 {
-        0 => 1 + random::below32(s, 50),
-        1 => numbers::times(period, 1 + random::below32(s, 5)),
-        2 => numbers::times(factor, 1 + random::below32(s, 30)),
+        0 => up_to(s, 50),
+        1 => numbers::times(period, up_to(s, 5)),
+        2 => numbers::times(factor, up_to(s, 30)),
         _ => 4294967295 - random::below32(s, 100),
     }
 }
 
 // A factor up to 24.
 pub fn factor(state: u64) -> u32 {
-    1 + random::below32(state, 24)
+    up_to(state, 24)
 }
 
 // A run of at most 12 lines with at most 16 cells each, whose interval goes with a period.
@@ -57,7 +80,7 @@ pub fn draw_case(state: u64) -> Case {
     let d = random::next(c);
     let factor = factor(a);
     let window = 2 + 2 * random::below32(b, 8);
-    let period = period(c >> 9, window, factor);
+    let period = period(c >> 9, small(window, factor));
     let interval = interval(d >> 9, period, factor);
     Case {
         run: run_for(d, window, interval),
@@ -66,13 +89,7 @@ pub fn draw_case(state: u64) -> Case {
 }
 
 // Draws a source for each place of two lists. Every third repeats the period of the one before.
-pub fn draw_sources(
-    periods: &mut [u32],
-    weights: &mut [u32],
-    window: u32,
-    factor: u32,
-    state: u64,
-) {
+pub fn draw_sources(periods: &mut [u32], weights: &mut [u32], choice: Choice, state: u64) {
     let all = periods.len();
     let mut last: u32 = 1;
     let mut s = state;
@@ -80,10 +97,10 @@ pub fn draw_sources(
     while k < all {
         s = random::next(s);
         if k % 3 != 2 {
-            last = period(s >> 9, window, factor);
+            last = period(s >> 9, choice);
         }
         numbers::put_number(periods, k, last);
-        numbers::put_number(weights, k, 1 + random::below32(s, 255));
+        numbers::put_number(weights, k, up_to(s, choice.heaviest));
         k += 1;
     }
 }

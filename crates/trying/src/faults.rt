@@ -138,6 +138,18 @@ pub fn weight(bad: bool, state: u64) -> u32 {
     }
 }
 
+// The first refusal of a list in which one source has a faulty period and one a faulty weight, where these are faults; 0 if
+// neither is. A source's period comes before its weight.
+pub fn source_refusal(period: bool, period_at: usize, weight: bool, weight_at: usize) -> u8 {
+    if period && (!weight || period_at <= weight_at) {
+        return 4;
+    }
+    if weight {
+        return 7;
+    }
+    0
+}
+
 // A cell to start from: the first or the last of the run, or one of the next after it, or the largest number.
 pub fn start(bad: bool, run: Run, state: u64) -> u64 {
     let cells = reference::cells(run) as u64;

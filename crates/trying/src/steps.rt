@@ -1,17 +1,9 @@
 // The step vectors, held against the conditions of 01.
 use crate::numbers;
 use crate::reference;
+use signed::size;
 use vectors::Steps;
 use vectors::Vector;
-
-// The size of an offset, without its sign.
-fn size(x: i64) -> u64 {
-    if x < 0 {
-        (-(x + 1)) as u64 + 1
-    } else {
-        x as u64
-    }
-}
 
 // Whether p divides r·line + left - right, where `right` is below p.
 fn in_lattice(period: u32, remainder: u32, line: u32, left: u32, right: u32) -> bool {

@@ -3,8 +3,9 @@
 use scope::Verdict;
 use scope::judge_period;
 use scope::judge_window;
+use signed::size;
 ghost use mathlib.Core.Path.{_≡_};
-ghost use lib.IntN.{natAbs, _+ℤ_, _*ℤ_};
+ghost use lib.IntN.{_+ℤ_, _*ℤ_};
 ghost use mir.Syntax.{w64};
 ghost use mir.Val.{SFits};
 ghost use Rattle.vectors.specs.Promise.{VectorsPromise, Spans, Askable};
@@ -38,17 +39,6 @@ pub enum Steps {
 pub struct Turn {
     pub before: Vector,
     pub last: Vector,
-}
-
-// The size of x, without its sign. One is added on the other side of the cast: -x itself overflows at the least i64.
-fn size(x: i64) -> u64
-    ensures { λ r. ⌜ r ≡ natAbs x ⌝ }
-{
-    if x < 0 {
-        (-(x + 1)) as u64 + 1
-    } else {
-        x as u64
-    }
 }
 
 // x + times·y, where that and the product are held by 64 bits.

@@ -15,7 +15,7 @@ use Rattle.vectors.proofs.divide.Reads as divide
 use Rattle.vectors.proofs.divide.Kinds as divide-kinds
 use Rattle.vectors.proofs.+divide.Lts-divide as lts
 use Rattle.vectors.proofs.next.Reads as next-reads
-use Rattle.vectors.proofs.size.Reads as size-reads
+use Rattle.signed.proofs.size.Reads as size-reads
 use Rattle.vectors.proofs.+divide.{statement}
 use Rattle.vectors.proofs.+divide.Tie.{close}
 

@@ -7,10 +7,10 @@ use Rattle.trying.proofs.draw.draw_sources.Statement.{statement}
 use Rattle.trying.proofs.draw.draw_sources.Tie as tie
 
 abbrev Inv-loop : tie.InvT-loop
-Inv-loop periods₀ weights₀ window factor state all last₀ s₀ k₀ periods weights last s k = (length periods ≡ length periods₀) × (length weights ≡ length weights₀)
+Inv-loop periods₀ weights₀ choice state all last₀ s₀ k₀ periods weights last s k = (length periods ≡ length periods₀) × (length weights ≡ length weights₀)
 
 abbrev μ-loop : tie.MeasureT-loop
-μ-loop periods₀ weights₀ window factor state all last₀ s₀ k₀ periods weights last s k = all - k
+μ-loop periods₀ weights₀ choice state all last₀ s₀ k₀ periods weights last s k = all - k
 
 loop-holds : tie.Need-loop-holds Inv-loop μ-loop
 loop-holds c = search needs
@@ -24,11 +24,8 @@ period-requires c κs = search needs
 put-number-requires : tie.Need-put-number-requires Inv-loop μ-loop
 put-number-requires c κs = search needs
 
-below32-requires : tie.Need-below32-requires Inv-loop μ-loop
-below32-requires c κs = search needs
-
-add-put-number : tie.Need-add-put-number Inv-loop μ-loop
-add-put-number c = search needs
+up-to-requires : tie.Need-up-to-requires Inv-loop μ-loop
+up-to-requires c κs = search needs
 
 put-number-requires-2 : tie.Need-put-number-requires-2 Inv-loop μ-loop
 put-number-requires-2 c κs = search needs
@@ -61,8 +58,7 @@ draw-sources-spec =
     next-requires
     period-requires
     put-number-requires
-    below32-requires
-    add-put-number
+    up-to-requires
     put-number-requires-2
     add-k
     loop-less

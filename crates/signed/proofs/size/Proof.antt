@@ -1,4 +1,4 @@
--- `trying::steps::size` is safe: below 0, x is -(n + 1), and each step of the sum and the negation is exact.
+-- `size` meets its contract: below 0, x is -(n + 1), and each step of the sum and the negation is exact.
 -- Assumes nothing.
 use mathlib.Core.Path.{_≡_, refl}
 use mathlib.Core.Bool.{true}
@@ -10,9 +10,9 @@ use lib.Signed.{ltZ, yes-nonNeg}
 use mir.Syntax.{w64}
 use mir.Val.{SFits}
 use mir.Facts.{toZ-ofZ, fits-natAbs}
 use Rattle.signed.proofs.Parts.{parts, ltZ-false, apart, sum, neg-up, neg-dn}
-use Rattle.trying.proofs.steps.size.Statement.{statement}
-use Rattle.trying.proofs.steps.size.Tie as tie
+use Rattle.signed.proofs.size.Statement.{statement}
+use Rattle.signed.proofs.size.Tie as tie
 
 -- what x is below 0
 record Below (x : ℤ) : Type 0 where
@@ -55,7 +55,7 @@ cast-result-2 c =
     simp (toZ-ofZ f) (yes-nonNeg (ltZ-false (c .before .args .x) (pos 0) (simp (toZ-ofZ f) at (c .if1 .left))), fits-natAbs tt f)
 
 returns : tie.Need-returns
-returns c = search needs
+returns c = let b = at c in simp (b .is, toZ-ofZ (b .fits), toZ-ofZ (b .more), b .turned, toZ-ofZ (b .kept)) (omega (arith, parts, b .kept))
 
 returns-2 : tie.Need-returns-2
 returns-2 c = search needs
