@@ -186,6 +186,7 @@ fn try_run(ledger: &mut [u64], run: Run, room: &mut [u8], map: &mut [u8], state:
     try_lengths(ledger, room, &mut map[0..cells], length);
 }
 
+// Prints what was counted: a line for each kind of change and of refusal, so that one that never came is seen.
 fn print(ledger: &[u64]) {
     tally::print(ledger, SAVED, b"saved maps as laid down");
     tally::print(ledger, READ, b"saved maps read back");
