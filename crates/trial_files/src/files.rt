@@ -186,6 +186,7 @@ fn try_run(ledger: &mut [u64], run: Run, room: &mut [u8], map: &mut [u8], state:
     try_lengths(ledger, room, &mut map[0..cells], length);
 }
 
+// Prints what was counted: a line for each kind of change and of refusal, so that one that never came is seen.
 fn print(ledger: &[u64]) {
     tally::print(ledger, SAVED, b"saved maps as laid down");
     tally::print(ledger, READ, b"saved maps read back");
@@ -209,45 +210,50 @@ fn print(ledger: &[u64]) {
 }
 
 // Tries three runs: 01's, one whose last block is full, and one with two cells more than that.
-pub fn run() {
-    let mut ledger = tally::ledger();
-    let mut room = [0u8; 2048];
-    let mut map = [0u8; 512];
+fn try_all(ledger: &mut [u64], room: &mut [u8], map: &mut [u8]) {
     try_run(
-        &mut ledger,
+        ledger,
         Run {
             window: 4,
             interval: 10,
             first: 1,
             last: 5,
         },
-        &mut room,
-        &mut map,
+        room,
+        map,
         5,
     );
     try_run(
-        &mut ledger,
+        ledger,
         Run {
             window: 4,
             interval: 1,
             first: 100,
             last: 225,
         },
-        &mut room,
-        &mut map,
+        room,
+        map,
         6,
     );
     try_run(
-        &mut ledger,
+        ledger,
         Run {
             window: 2,
             interval: 4294967295,
             first: 16776964,
             last: 16777216,
         },
-        &mut room,
-        &mut map,
+        room,
+        map,
         7,
     );
+}
+
+// Tries all saved and changed files, and prints what was counted.
+pub fn run() {
+    let mut ledger = tally::ledger();
+    let mut room = [0u8; 2048];
+    let mut map = [0u8; 512];
+    try_all(&mut ledger, &mut room, &mut map);
     print(&ledger);
 }

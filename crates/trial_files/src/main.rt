@@ -5,6 +5,7 @@ mod files;
 mod layout;
 mod reading;
 
+// Tries saved and changed files, then all sets of faults of reading; each part prints its own counts.
 fn main() {
     files::run();
     reading::run();

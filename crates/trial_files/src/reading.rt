@@ -27,6 +27,7 @@ const FILLING: u64 = 256;
 
 const ROOM: u64 = 512;
 
+// The first refusal of a set of faults; 0 if there is none. 13, 14 and 15 come twice, before the run's and after.
 fn refusal(faults: u64) -> u8 {
     if has(faults, LENGTH) {
         return 13;
@@ -170,6 +171,7 @@ fn refused(faults: u64, state: u64, room: &mut [u8], map: &mut [u8]) -> bool {
     saved && read_first(room, lent(faults, state >> 53), map, cells, refusal(faults))
 }
 
+// Goes through the sets of faults again and again, each time with another map and other forms of the faults.
 fn try_all(ledger: &mut [u64], room: &mut [u8], map: &mut [u8]) {
     let mut state: u64 = 294;
     let mut turn: u64 = 0;

@@ -87,6 +87,7 @@ fn starts_alike(room: &[u64], found: &[u64], count: usize) -> bool {
     count <= room.len() && count <= found.len()
 }
 
+// Whether the first hit from a cell on is the first that the walk found, and "none" is said exactly if it found none.
 fn first_hit_agrees(run: Run, period: u32, start: u64, found: &[u64], count: usize) -> bool {
     match hits::first_hit(run, Source { period }, RunCell(start)) {
         FirstHit::At(cell) => 0 < count && cell.0 == numbers::cell_at(found, 0),
@@ -95,6 +96,8 @@ fn first_hit_agrees(run: Run, period: u32, start: u64, found: &[u64], count: usi
     }
 }
 
+// Whether a listing gives the hits that the walk found. `found` has a place more than the room, so that a hit that
+// is left is known.
 fn listing_agrees(
     run: Run,
     period: u32,
@@ -153,6 +156,7 @@ fn compare_vectors(ledger: &mut [u64], state: u64) {
     );
 }
 
+// Compares the hits and the step vectors of all random cases. The first state is fixed, so that the same are drawn each time.
 fn compare_all(ledger: &mut [u64]) {
     let mut state: u64 = 16777216;
     let mut turns: u32 = 0;

@@ -184,6 +184,7 @@ fn try_map(ledger: &mut [u64], map: &mut [u8], state: u64) {
     );
 }
 
+// Tries all random maps. They share one room, since the cells of each are drawn anew.
 fn try_all(ledger: &mut [u64], map: &mut [u8]) {
     let mut state: u64 = 1048576;
     let mut turns: u32 = 0;

@@ -4,6 +4,7 @@
 mod large;
 mod long;
 
+// Tries large runs, then long maps; each part prints its own counts.
 fn main() {
     large::run();
     long::run();

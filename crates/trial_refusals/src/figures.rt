@@ -34,6 +34,7 @@ fn first_hit_says(run: Run) -> u8 {
     }
 }
 
+// The same of listing. There is room, so that the run alone can be refused.
 fn listing_says(run: Run) -> u8 {
     let mut room = [0u64; 2];
     match hits::list_hits(run, Source { period: 7 }, RunCell(0), &mut room) {
@@ -43,6 +44,7 @@ fn listing_says(run: Run) -> u8 {
     }
 }
 
+// The same of the map. The source is one of 01's example, so that the run alone can be refused.
 fn map_says(run: Run, map: &mut [u8]) -> u8 {
     match map::add_to_map(run, &[7], &[60], map) {
         Added::Refused(number) => number,
@@ -50,6 +52,7 @@ fn map_says(run: Run, map: &mut [u8]) -> u8 {
     }
 }
 
+// The same of saving. It is given a map and a file of the right lengths, so that the run alone can be refused.
 fn saving_says(run: Run, map: &[u8], file: &mut [u8]) -> u8 {
     match saved::save(run, map, file) {
         Saved::Refused(number) => number,

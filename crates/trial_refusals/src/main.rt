@@ -4,6 +4,7 @@
 mod figures;
 mod refusals;
 
+// Tries the bench figures, then all sets of faults; each part prints its own counts.
 fn main() {
     figures::run();
     refusals::run();

@@ -34,6 +34,7 @@ const REMAINDER: u64 = 4;
 
 const WIDE: u64 = 8;
 
+// The first refusal of a set of faults of the vectors call; 0 if there is none.
 fn vectors_refusal(faults: u64) -> u8 {
     if has(faults, faults::WINDOW) {
         return 1;
@@ -76,6 +77,7 @@ fn remainder_for(faults: u64, period: u32, state: u64) -> u32 {
     }
 }
 
+// Whether the vectors call gives the first refusal of a set of faults or, without a fault, vectors as 01 says.
 fn vectors_refused(faults: u64, state: u64) -> bool {
     let window = faults::window(has(faults, faults::WINDOW), state >> 8);
     let period = period_for(faults, window, state >> 16);
@@ -96,6 +98,7 @@ const START: u64 = 16;
 
 const ROOM: u64 = 32;
 
+// The first refusal of a set of faults of first hit and listing; 0 if there is none.
 fn hit_refusal(faults: u64) -> u8 {
     let number = faults::run_refusal(faults);
     if number != 0 {
@@ -126,6 +129,7 @@ fn first_hit_refused(faults: u64, state: u64) -> bool {
     }
 }
 
+// Whether listing gives the first refusal of a set of faults and leaves the room as it was or, without a fault, is not refused.
 fn listing_refused(faults: u64, state: u64, room: &mut [u64]) -> bool {
     let run = faults::faulty_run(faults, state);
     let period = faults::period(has(faults, PERIOD), state >> 32);
@@ -162,10 +166,13 @@ fn faulty_period_at(state: u64) -> usize {
     (state >> 40) as usize % 3
 }
 
+// It may come before, at or after the faulty period, since 01 goes source by source.
 fn faulty_weight_at(state: u64) -> usize {
     (state >> 44) as usize % 3
 }
 
+// The first refusal of a set of faults of the map; 0 if there is none. Of a faulty period and a faulty weight the earlier
+// source's comes first, and at one source the period.
 fn map_refusal(faults: u64, state: u64) -> u8 {
     let number = faults::run_refusal(faults);
     if number != 0 {
@@ -189,6 +196,8 @@ fn map_refusal(faults: u64, state: u64) -> u8 {
     0
 }
 
+// Whether the map call gives the first refusal of a set of faults and leaves the map as it was or, without a fault, is not
+// refused.
 fn map_refused(faults: u64, state: u64, periods: &[u32], weights: &[u32], map: &mut [u8]) -> bool {
     let expected = map_refusal(faults, state);
     untouched::fill_bytes(map);
@@ -227,6 +236,7 @@ const SAVED_MAP: u64 = 8;
 
 const FILE: u64 = 16;
 
+// The first refusal of a set of faults of saving; 0 if there is none. Map and file of a wrong length are refused alike.
 fn saving_refusal(faults: u64) -> u8 {
     let number = faults::run_refusal(faults);
     if number != 0 {
@@ -238,6 +248,7 @@ fn saving_refusal(faults: u64) -> u8 {
     0
 }
 
+// Whether saving gives the first refusal of a set of faults and leaves the file as it was or, without a fault, is not refused.
 fn saving_refused(faults: u64, state: u64, map: &[u8], file: &mut [u8]) -> bool {
     let expected = saving_refusal(faults);
     untouched::fill_bytes(file);
@@ -277,6 +288,7 @@ fn try_each(ledger: &mut [u64], turn: u64, state: u64, map: &mut [u8], file: &mu
     );
 }
 
+// Goes through the sets of faults of all calls again and again, each time with other forms of the faults.
 fn try_all(ledger: &mut [u64], map: &mut [u8], file: &mut [u8]) {
     let mut state: u64 = 16777217;
     let mut turn: u64 = 0;

@@ -5,6 +5,7 @@ mod listing;
 mod mapping;
 mod small;
 
+// Compares all random small runs, and prints the counts.
 fn main() {
     small::run();
 }

@@ -63,6 +63,7 @@ fn compare_hits(ledger: &mut [u64], case: Case, truth: &mut [u8], state: u64) ->
     all_fine(first, listed, true)
 }
 
+// Counts the three ways of making a map, each at its own place. Answers whether all are fine.
 fn count_maps(ledger: &mut [u64], whole: bool, one: bool, cut: bool) -> bool {
     tally::count(ledger, MAP, whole);
     tally::count(ledger, MAP_ONE_BY_ONE, one);
@@ -156,6 +157,7 @@ fn compare(ledger: &mut [u64], state: u64) {
     );
 }
 
+// Compares all random cases. They go by the first state alone, so that the same are drawn each time.
 fn compare_all(ledger: &mut [u64], state: u64) {
     let mut s = state;
     let mut turns: u32 = 0;
@@ -166,6 +168,7 @@ fn compare_all(ledger: &mut [u64], state: u64) {
     }
 }
 
+// Prints what was counted: for each call, then for each kind of case, so that a kind that never came is seen.
 fn print(ledger: &[u64]) {
     tally::print(ledger, FIRST_HIT, b"first hit from random cells");
     tally::print(ledger, LISTING, b"listing with random rooms");

@@ -4,6 +4,7 @@
 mod reports;
 mod texts;
 
+// Tries malformed, faulty and sound texts, then reports; each part prints its own counts.
 fn main() {
     texts::run();
     reports::run();

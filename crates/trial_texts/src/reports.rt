@@ -178,6 +178,7 @@ fn random_agrees(state: u64) -> bool {
     first_agrees(run, count, &periods, &weights, &mut sums)
 }
 
+// Compares the reports on all random runs. The first state is fixed, so that the same are drawn each time.
 fn try_all(ledger: &mut [u64]) {
     let mut state: u64 = 22327;
     let mut turns: u32 = 0;

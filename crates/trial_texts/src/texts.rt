@@ -43,6 +43,7 @@ fn end_of_text(texts: &[u8], from: usize) -> usize {
     all
 }
 
+// Reads one of some malformed texts, from a place to its end. Past the last text there is none, and nothing is counted.
 fn try_malformed(ledger: &mut [u64], texts: &[u8], from: usize, end: usize) {
     if texts.len() <= from || end < from || texts.len() < end {
         return;
@@ -221,10 +222,13 @@ fn faulty_period_at(count: usize, state: u64) -> usize {
     random::below(state >> 8, count as u64) as usize
 }
 
+// It may come before, at or after the faulty period, since 01 goes source by source.
 fn faulty_weight_at(count: usize, state: u64) -> usize {
     random::below(state >> 20, count as u64) as usize
 }
 
+// The first refusal of a set of faults; 0 if there is none. Of a faulty period and a faulty weight the earlier source's comes
+// first, and at one source the period.
 fn refusal(faults: u64, count: usize, state: u64) -> u8 {
     if has(faults, FORM) {
         return 11;
@@ -416,6 +420,7 @@ fn try_sources(ledger: &mut [u64], faults: u64, state: u64, room: &mut [u8]) {
     try_first(ledger, faults, state, room, count, &periods, &weights);
 }
 
+// Tries each set of faults ten times, and each time a text without a fault besides, since only one set of 256 is empty.
 fn try_faults(ledger: &mut [u64], room: &mut [u8]) {
     let mut state: u64 = 4096;
     let mut turn: u64 = 0;

@@ -95,6 +95,7 @@ pub fn count_hits(run: Run, period: u32) -> u32 {
     count
 }
 
+// Adds a source's weight to the sum of one cell, if it hits that cell.
 fn add_weight_at(run: Run, period: u32, weight: u32, sums: &mut [u32], x: usize) {
     if is_hit_cell(run, period, numbers::low32(x as u64)) {
         let sum = numbers::number_at(sums, x);
@@ -151,6 +152,7 @@ pub fn map_is(map: &[u8], sums: &[u32]) -> bool {
     map.len() == all
 }
 
+// Whether d divides both a and b. 0 is said to divide nothing, so that no proof is asked for.
 fn divides_both(d: u32, a: u32, b: u32) -> bool {
     if d == 0 {
         return false;

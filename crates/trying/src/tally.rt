@@ -7,6 +7,7 @@ pub fn ledger() -> [u64; 64] {
     [0; 64]
 }
 
+// Adds 1 to the count at a place of the list, if that is not past its end.
 fn one_more(ledger: &mut [u64], at: usize) {
     if at < ledger.len() {
         ledger[at] = std::num::wrapping_add_u64(ledger[at], 1);
