@@ -19,6 +19,7 @@ fn print(text: &[u8], bytes: &[u8])
     io::write_all(STDOUT_FILENO, bytes);
 }
 
+// Reads the text, and prints what is printed of it.
 fn main() {
     let mut text = text_room();
     let count = io::read_full(STDIN_FILENO, &mut text);
