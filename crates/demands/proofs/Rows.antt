@@ -19,7 +19,7 @@ use Rattle.sources.specs.Entry.{Entry, entriesOf, entryTests, listTests}
 use Rattle.vectors.specs.Promise.{vectorsTests}
 use Rattle.hits.specs.Promise.{firstHitTests, listingTests}
 use Rattle.map.specs.Map.{mapTests}
-use Rattle.saved.specs.Block.{fourAt, checkOf, contents, allZero, blockTests}
+use Rattle.blocks.specs.Block.{fourAt, checkOf, contents, allZero, blockTests}
 use Rattle.saved.specs.File.{blockAt, runOf, blocksFor, fileLength, savingTests, headingTests, cellBlocksTests, fileTests, readingTests}
 use Rattle.text.specs.Form.{Content}
 use Rattle.text.specs.Promise.{textTests}

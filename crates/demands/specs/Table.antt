@@ -10,7 +10,7 @@ use Rattle.scope.specs.declared.Source.{Source}
 use Rattle.scope.specs.declared.RunCell.{RunCell}
 use Rattle.scope.specs.Run.{cellsOf}
 use Rattle.sources.specs.Entry.{Entry, entriesOf}
-use Rattle.saved.specs.Block.{fourAt, checkOf}
+use Rattle.blocks.specs.Block.{fourAt, checkOf}
 use Rattle.saved.specs.File.{blockAt, runOf, blocksFor, fileLength}
 use Rattle.text.specs.Form.{Content, Spells}
 use Rattle.text.specs.Promise.{Reads}

@@ -26,7 +26,7 @@ use Rattle.vectors.specs.Promise.{VectorsPromise}
 use Rattle.vectors.proofs.Theorems.{vectors-unique}
 use Rattle.saved.specs.declared.Saved.{Saved}
 use Rattle.saved.specs.declared.Saved.the-variants.{Done as Done·saved, Refused as Refused·saved}
-use Rattle.saved.specs.Block.{fourAt}
+use Rattle.blocks.specs.Block.{fourAt}
 use Rattle.saved.specs.File.{fileLength, fileOf, savingTests}
 use Rattle.saved.specs.Promise.{saysSaving, SavingPromise}
 use Rattle.map.specs.declared.Added.the-variants.{Done as Done·map}

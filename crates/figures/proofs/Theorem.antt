@@ -10,7 +10,7 @@ use Rattle.sources.specs.Entry.{entriesOf, entryTests, listTests}
 use Rattle.map.specs.Sum.{raised}
 use Rattle.map.specs.Map.{mapTests, weightAt, added}
 use Rattle.vectors.specs.Promise.{VectorsPromise, vectorsTests}
-use Rattle.saved.specs.Block.{four, fourAt, weighted, checkOf, filled, sealed, blockOf}
+use Rattle.blocks.specs.Block.{four, fourAt, weighted, checkOf, filled, sealed, blockOf}
 use Rattle.saved.specs.File.{heading, firstJoined, cellBlocks, blocksFor, fileLength, fileOf}
 use Rattle.hits.specs.Promise.{firstHitTests}
 use Rattle.figures.specs.Table.{Figure, hits, mapped, saved, Holds, lines-1-11, hits-1-11, example, exampleMap, table}

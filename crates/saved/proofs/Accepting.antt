@@ -9,7 +9,7 @@ use lib.Seq.{take-all, drop-drop}
 use Rattle.scope.specs.Run.{Within, cellsOf}
 use Rattle.scope.proofs.Judged.{Passes}
 use Rattle.scope.proofs.Limits.{passes-first, passes-then}
-use Rattle.saved.specs.Block.{blockOf, contents, blockTests}
+use Rattle.blocks.specs.Block.{blockOf, contents, blockTests}
 use Rattle.saved.specs.File.{cellBlocks, blocksFor, fileLength, fileOf, blockAt, runOf, bytesIn, mapOf, cellBlocksTests}
 use Rattle.saved.proofs.Lists.{take-take-min, take-drop-swap}
 use Rattle.saved.proofs.Joined.{Even, first-joined-at, first-joined-is}

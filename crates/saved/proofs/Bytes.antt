@@ -4,9 +4,9 @@ use mathlib.Core.List.{List, [], _∷_, _++_}
 use native.Mathlib.Omega.{arith}
 use lib.ListN.{length, getD, take, drop, replicate}
 use Rattle.scope.specs.Run.{Within}
-use Rattle.saved.specs.Block.{four, filled, weighted, checkOf}
+use Rattle.blocks.specs.Block.{four, filled, weighted, checkOf}
 use Rattle.saved.specs.File.{blockAt}
-use Rattle.saved.proofs.Number.{term-small}
+use Rattle.blocks.proofs.Number.{term-small}
 
 pub bytes-take : (n : ℕ) (l : List ℕ) → Within 255 l → Within 255 (take n l)
 bytes-take zero l b i = omega arith

@@ -8,11 +8,11 @@ use native.Mathlib.Omega.{arith}
 use lib.ListN.{length, take, drop, length-append, length-take, length-drop}
 use lib.Seq.{take-take, take-all, take-length, length-take-le, take-nil, take-append-add, drop-drop}
 use borrow.Rule.Slice.PartMut.{putMid, midOf, mid-len}
-use Rattle.saved.specs.Block.{filled, blockOf, contents}
+use Rattle.blocks.specs.Block.{filled, blockOf, contents}
 use Rattle.saved.specs.File.{firstJoined, cellBlocks, blocksFor, fileLength, blockAt, bytesIn}
 use Rattle.saved.proofs.Lists.{take-take-min, take-drop-take}
-use Rattle.saved.proofs.Block.{length-block}
-use Rattle.saved.proofs.Writing.{Written, written-none, written-part, written-length, written-all}
+use Rattle.blocks.proofs.Block.{length-block}
+use Rattle.blocks.proofs.Writing.{Written, written-none, written-part, written-length, written-all}
 
 -- another block is begun exactly while cells are left
 pub more-blocks : {size k : ℕ} → 504 * k < size → k < blocksFor size

@@ -12,15 +12,15 @@ use Rattle.scope.specs.declared.Run.{Run}
 use Rattle.scope.specs.Run.{Valid, Within}
 use Rattle.scope.proofs.Judged.{Passes, sound, both}
 use Rattle.scope.proofs.Limits.{passes-first, passes-then, passes-when}
-use Rattle.saved.specs.Block.{four, fourAt, filled, sealed, blockOf, allZero}
+use Rattle.blocks.specs.Block.{four, fourAt, filled, sealed, blockOf, allZero}
 use Rattle.saved.specs.File.{heading, blockAt, runOf, headingTests}
 use Rattle.saved.proofs.Lists.{take-drop-take}
-use Rattle.saved.proofs.Filling.{all-zero-replicate}
+use Rattle.blocks.proofs.Filling.{all-zero-replicate}
 use Rattle.saved.proofs.Bytes.{bytes-append, bytes-four, bytes-blockAt}
-use Rattle.saved.proofs.Block.{length-four}
+use Rattle.blocks.proofs.Block.{length-four}
 use Rattle.saved.proofs.Cells.{contents-at, length-blockAt}
 use Rattle.saved.proofs.Sealing.{block-passes, block-is, four-back}
-use Rattle.saved.proofs.Differs.{agrees, same}
+use Rattle.blocks.proofs.Differs.{agrees, same}
 
 pub length-heading : (run : Run) → length (heading run) ≡ 20
 unfolding heading

@@ -11,7 +11,7 @@ use Rattle.scope.specs.Reply.{verdict}
 use Rattle.scope.specs.declared.Verdict.{Verdict}
 use Rattle.scope.specs.declared.Verdict.the-variants.{Fine, Refused}
 use Rattle.scope.proofs.Judged.{Fails, Passes, no-tests, first, then, both, fine, blamed}
-use Rattle.saved.specs.Block.{blockTests}
+use Rattle.blocks.specs.Block.{blockTests}
 use Rattle.saved.specs.File.{blockAt, cellBlocksTests, blocksFor}
 use Rattle.saved.proofs.Cells.{more-blocks, all-blocks}
 

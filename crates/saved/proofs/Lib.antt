@@ -1,10 +1,5 @@
 pub mod Lists
-pub mod Writing
 pub mod Joined
-pub mod Number
-pub mod Filling
-pub mod Block
-pub mod Differs
 pub mod Bytes
 pub mod Cells
 pub mod Judging

@@ -9,7 +9,7 @@ use Rattle.scope.specs.Refusal.{runTests}
 use Rattle.scope.specs.Reply.{answered}
 use Rattle.scope.proofs.Judged.{Fails, Passes, refuse-reply, refuse-stored, grant-reply, grant-stored}
 use Rattle.scope.proofs.Limits.{passes-first, passes-then}
-use Rattle.saved.proofs.Differs.{same}
+use Rattle.blocks.proofs.Differs.{same}
 use Rattle.saved.specs.declared.Saved.the-variants.{Done, Refused as Refused·saved}
 use Rattle.saved.specs.declared.Loaded.the-variants.{Of, Refused as Refused·loaded}
 use Rattle.saved.specs.File.{blocksFor, fileLength, fileOf, blockAt, runOf, mapOf, headingTests, cellBlocksTests, fileTests, savingTests, readingTests}

@@ -11,15 +11,15 @@ use Rattle.scope.specs.declared.Run.{Run}
 use Rattle.scope.specs.Run.{Valid, Within, cellsOf}
 use Rattle.scope.proofs.Judged.{Passes, sound, both, no-tests}
 use Rattle.scope.proofs.Limits.{valid-run-passes, cells-few}
-use Rattle.saved.specs.Block.{filled, blockOf, contents}
+use Rattle.blocks.specs.Block.{filled, blockOf, contents}
 use Rattle.saved.specs.File.{heading, firstJoined, cellBlocks, blocksFor, fileLength, fileOf, blockAt, runOf, bytesIn, mapOf, cellBlocksTests, fileTests}
 use Rattle.saved.proofs.Joined.{first-joined-at}
 use Rattle.saved.proofs.Bytes.{bytes-drop}
-use Rattle.saved.proofs.Block.{length-block, take-filled}
+use Rattle.blocks.proofs.Block.{length-block, take-filled}
 use Rattle.saved.proofs.Cells.{begun-block, enough-blocks, length-cellBlocks, length-bytesIn}
 use Rattle.saved.proofs.Sealing.{block-passes, block-contents}
 use Rattle.saved.proofs.Heading.{run-told, heading-passes}
-use Rattle.saved.proofs.Differs.{agrees}
+use Rattle.blocks.proofs.Differs.{agrees}
 
 pub length-file : (run : Run) (map : List ℕ) → length (fileOf run map) ≡ fileLength (cellsOf run)
 unfolding fileOf fileLength

@@ -8,14 +8,14 @@ use native.Mathlib.Omega.{arith}
 use lib.ListN.{length, getD, take, drop, length-take, length-drop, take-append-drop}
 use lib.Seq.{getD-take, getD-drop, take-all, take-add, drop-at, take-at}
 use Rattle.scope.specs.Run.{Within}
-use Rattle.saved.specs.Block.{four, fourAt, checkOf, filled, sealed, blockOf, contents, allZero, blockTests}
+use Rattle.blocks.specs.Block.{four, fourAt, checkOf, filled, sealed, blockOf, contents, allZero, blockTests}
 use borrow.Author.Tests.{not-false}
 use Rattle.scope.proofs.Judged.{Passes, sound, both}
 use Rattle.scope.proofs.Limits.{passes-first, passes-then, passes-when}
-use Rattle.saved.proofs.Filling.{all-zero-behind, all-zero-replicate}
+use Rattle.blocks.proofs.Filling.{all-zero-behind, all-zero-replicate}
 use Rattle.saved.proofs.Bytes.{bytes-take, bytes-drop, bytes-append, bytes-four, bytes-filled, check-small}
-use Rattle.saved.proofs.Block.{length-four, length-filled, length-front, check-front}
-use Rattle.saved.proofs.Differs.{agrees, same}
+use Rattle.blocks.proofs.Block.{length-four, length-filled, length-front, check-front}
+use Rattle.blocks.proofs.Differs.{agrees, same}
 
 -- a number that was written is read
 pub four-read : (n : ℕ) (rest : List ℕ) → n < 4294967296 → fourAt (four n ++ rest) 0 ≡ n

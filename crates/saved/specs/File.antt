@@ -7,7 +7,7 @@ use lib.ListN.{length, getD, take, drop}
 use Rattle.scope.specs.declared.Run.{Run}
 use Rattle.scope.specs.Run.{cellsOf}
 use Rattle.scope.specs.Refusal.{Tests, _when_, _andThen_, nothing, runTests, Room, Blocks, Layout}
-use Rattle.saved.specs.Block.{four, fourAt, blockOf, contents, allZero, blockTests}
+use Rattle.blocks.specs.Block.{four, fourAt, blockOf, contents, allZero, blockTests}
 
 -- "Block 0: byte 4 = 1 (version), 5-7 zero, then four 32-bit numbers at 8, 12, 16, 20: window, interval, first line, last line".
 unfoldable pub heading : Run → List ℕ

@@ -1,3 +1,2 @@
-pub mod Block
 pub mod File
 pub mod Promise

@@ -14,7 +14,7 @@ use Rattle.scope.specs.Reply.{answered, verdict}
 use Rattle.scope.proofs.Judged.{Passes, broken, sound, first, then, both, fine, blamed, refuse-reply, grant-reply}
 use Rattle.scope.proofs.Limits.{valid-run, cells-few}
 use Rattle.saved.specs.File.{blocksFor, fileLength, blockAt, runOf, headingTests, cellBlocksTests, fileTests}
-use Rattle.saved.proofs.Differs.{differs, agrees}
+use Rattle.blocks.proofs.Differs.{differs, agrees}
 use Rattle.saved.proofs.judge_file.Statement.{statement}
 use Rattle.saved.proofs.judge_file.Tie as tie
 

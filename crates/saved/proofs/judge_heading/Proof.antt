@@ -6,9 +6,9 @@ use lib.Dec.{eqb}
 use lib.ListN.{getD}
 use Rattle.scope.specs.Refusal.{_when_, _andThen_, Layout, number}
 use Rattle.scope.proofs.Judged.{Passes, broken, sound, first, then, both, fine, blamed, refuse-verdict, grant-verdict}
-use Rattle.saved.specs.Block.{blockTests}
+use Rattle.blocks.specs.Block.{blockTests}
 use Rattle.saved.specs.File.{headingTests}
-use Rattle.saved.proofs.Differs.{differs, agrees}
+use Rattle.blocks.proofs.Differs.{differs, agrees}
 use Rattle.saved.proofs.judge_heading.Statement.{statement}
 use Rattle.saved.proofs.judge_heading.Tie as tie
 

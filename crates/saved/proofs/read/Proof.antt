@@ -9,7 +9,7 @@ use Rattle.scope.proofs.Judged.{Passes, broken, sound, first, then, both, said-
 use Rattle.scope.proofs.Limits.{valid-run, cells-few}
 use Rattle.saved.specs.File.{blocksFor, fileLength, runOf, bytesIn, mapOf, fileTests, readingTests}
 use Rattle.saved.specs.Promise.{saysReading}
-use Rattle.saved.proofs.Differs.{differs, agrees}
+use Rattle.blocks.proofs.Differs.{differs, agrees}
 use Rattle.saved.proofs.Promises.{accepted, refuse-reading, grant-reading}
 use Rattle.saved.proofs.read.Statement.{statement}
 use Rattle.saved.proofs.read.Tie as tie

@@ -12,12 +12,12 @@ use Rattle.scope.specs.Run.{Valid, cellsOf}
 use Rattle.scope.specs.Refusal.{number, runTests}
 use Rattle.scope.proofs.Judged.{Passes, broken, sound, first, then, both, fine, blamed}
 use Rattle.scope.proofs.Limits.{valid-run, cells-few}
-use Rattle.saved.specs.Block.{blockOf}
+use Rattle.blocks.specs.Block.{blockOf}
 use Rattle.saved.specs.File.{heading, cellBlocks, blocksFor, fileLength, fileOf, savingTests}
-use Rattle.saved.proofs.Writing.{Written, written-none, written-part, written-length, written-all}
-use Rattle.saved.proofs.Block.{length-block}
+use Rattle.blocks.proofs.Writing.{Written, written-none, written-part, written-length, written-all}
+use Rattle.blocks.proofs.Block.{length-block}
 use Rattle.saved.proofs.Cells.{length-cellBlocks}
-use Rattle.saved.proofs.Differs.{differs, agrees}
+use Rattle.blocks.proofs.Differs.{differs, agrees}
 use Rattle.saved.proofs.Promises.{refuse-saving, grant-saving}
 use Rattle.saved.proofs.save.Statement.{statement}
 use Rattle.saved.proofs.save.Tie as tie

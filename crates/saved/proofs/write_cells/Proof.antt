@@ -5,7 +5,7 @@ use native.Mathlib.Omega.{arith}
 use borrow.Author.Needs.{needs}
 use lib.ListN.{length, length-take, length-drop}
 use Rattle.saved.specs.File.{blocksFor}
-use Rattle.saved.proofs.Writing.{written-length}
+use Rattle.blocks.proofs.Writing.{written-length}
 use Rattle.saved.proofs.Cells.{CellsWritten, cells-none, cells-more, cells-room, cells-all}
 use Rattle.saved.proofs.write_cells.Statement.{statement}
 use Rattle.saved.proofs.write_cells.Tie as tie

@@ -7,11 +7,11 @@ use mathlib.Core.List.{List, [], _∷_, _++_}
 use lib.ListN.{length, replicate}
 use borrow.Rule.Slice.PartMut.{putMid}
 use Rattle.scope.specs.declared.Run.{Run}
-use Rattle.saved.specs.Block.{four, blockOf}
+use Rattle.blocks.specs.Block.{four, blockOf}
 use Rattle.saved.specs.File.{heading}
-use Rattle.saved.proofs.Block.{length-four}
+use Rattle.blocks.proofs.Block.{length-four}
 use Rattle.saved.proofs.Heading.{length-heading}
-use Rattle.saved.proofs.Writing.{Written, written-part, written-length, written-all}
+use Rattle.blocks.proofs.Writing.{Written, written-part, written-length, written-all}
 use Rattle.saved.proofs.write_heading.Statement.{statement}
 use Rattle.saved.proofs.write_heading.Tie as tie
 

@@ -2,7 +2,7 @@
 use borrow.Author.Needs.{needs}
 use native.Mathlib.Omega.{arith}
 use native.Mathlib.Nat.{div-le-self}
-use Prim.Native.Nat.{ℕ, suc, _/_, _<_}
+use Prim.Native.Nat.{ℕ, suc, _/_}
 use lib.IntN.{ℤ, pos, negsuc, negℤ}
 use lib.Signed.{quotZ}
 use mir.Syntax.{w64}

@@ -1,8 +1,8 @@
--- `saved::write_block` meets its contract: the number, the bytes, the filling and the check are written one behind the other. Assumes nothing.
+-- `blocks::write_block` meets its contract: the number, the bytes, the filling and the check are written one behind the other. Assumes nothing.
 use borrow.Author.Needs.{needs}
-use Rattle.saved.proofs.Block.{written-block}
-use Rattle.saved.proofs.write_block.Statement.{statement}
-use Rattle.saved.proofs.write_block.Tie as tie
+use Rattle.blocks.proofs.Block.{written-block}
+use Rattle.blocks.proofs.write_block.Statement.{statement}
+use Rattle.blocks.proofs.write_block.Tie as tie
 
 add-end : tie.Need-add-end
 add-end c = search needs

@@ -7,8 +7,8 @@ use lib.ListN.{length, take, drop, replicate, length-append, length-take, length
 use native.Mathlib.Decide.{decLe}
 use lib.Seq.{take-all, take-append-seam}
 use borrow.Rule.Slice.PartMut.{midOf, putMid, mid-len}
-use Rattle.saved.specs.Block.{four, weighted, checkOf, filled, sealed, blockOf}
-use Rattle.saved.proofs.Writing.{written-none, written-part, written-length, written-all}
+use Rattle.blocks.specs.Block.{four, weighted, checkOf, filled, sealed, blockOf}
+use Rattle.blocks.proofs.Writing.{written-none, written-part, written-length, written-all}
 
 pub length-four : (n : ℕ) → length (four n) ≡ 4
 unfolding four

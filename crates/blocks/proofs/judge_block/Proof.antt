@@ -1,14 +1,14 @@
--- `saved::judge_block` meets its contract: each return is the first test that fails, or none. Assumes nothing.
+-- `blocks::judge_block` meets its contract: each return is the first test that fails, or none. Assumes nothing.
 use borrow.Author.Needs.{needs}
 use mathlib.Core.Path.{refl, sym, ap, _∙_}
 use mathlib.Core.Bool.{not}
 use lib.Dec.{eqb}
 use Rattle.scope.specs.Refusal.{_when_, _andThen_, Check, number}
 use Rattle.scope.proofs.Judged.{Passes, broken, sound, first, then, both, refuse-verdict, grant-verdict}
-use Rattle.saved.specs.Block.{fourAt, checkOf, contents, blockTests}
-use Rattle.saved.proofs.Differs.{differs, agrees}
-use Rattle.saved.proofs.judge_block.Statement.{statement}
-use Rattle.saved.proofs.judge_block.Tie as tie
+use Rattle.blocks.specs.Block.{fourAt, checkOf, contents, blockTests}
+use Rattle.blocks.proofs.Differs.{differs, agrees}
+use Rattle.blocks.proofs.judge_block.Statement.{statement}
+use Rattle.blocks.proofs.judge_block.Tie as tie
 
 -- the tests in their order, where they are passed
 named : (c : tie.Else1) → Passes (Check when not (eqb (fourAt (c .before .before .before .args .block .now) 0) (c .before .before .before .args .number)))
