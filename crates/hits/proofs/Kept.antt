@@ -3,7 +3,7 @@
 use Prim.Native.Nat.{ℕ, suc, _+_, _≤_, _<_, min}
 use native.Mathlib.Omega.{arith}
 use native.Mathlib.Numerals.{add-one}
-use mathlib.Core.Path.{_≡_, refl, sym, ap, _∙_}
+use mathlib.Core.Path.{_≡_, refl, sym, ap, ap₂, _∙_}
 use mathlib.Core.Bool.{true, false}
 use mathlib.Core.List.{List, [], _∷_, _++_, append-assoc, append-nil}
 use lib.ListN.{length, take, drop, set, length-append, length-set, take-append-drop, drop-of-length-le}
@@ -12,9 +12,10 @@ use Rattle.scope.specs.declared.Run.{Run}
 use Rattle.scope.specs.declared.Source.{Source}
 use Rattle.scope.specs.Run.{cellsOf}
 use Rattle.scope.specs.Hit.{isHit, hitsFrom}
+use Rattle.scope.specs.Reply.{answered}
 use Rattle.scope.proofs.Hits.{hits-end, hits-at, hits-over}
 use Rattle.hits.specs.declared.Listing.the-variants.{Done, More}
-use Rattle.hits.specs.Promise.{listed, written}
+use Rattle.hits.specs.Promise.{first, listed, written}
 use Rattle.hits.specs.Search.{FirstFrom}
 use Rattle.hits.specs.List.{ListsFrom}
 use Rattle.hits.proofs.Lists.{hits-same}
@@ -65,8 +66,8 @@ module _ {run : Run} {source : Source} {start : ℕ} where
       let same = k .same in
       let c : min (length before) (length (room ++ x ∷ rest)) ≡ n = omega arith in
       record {
-        says = rw (all, c, drop-at room (x ∷ rest) (length before) same);
-        stores = rw (all, take-at room (x ∷ rest) (length before) same, drop-of-length-le before {i = length (room ++ x ∷ rest)} (omega arith)) (sym (append-nil room));
+        says = sym (ap (λ hits. answered (listed hits before)) all ∙ ap₂ (λ count next. answered (record { count = count; next = next })) c (ap first (drop-at room (x ∷ rest) (length before) same)));
+        stores = sym (ap (λ hits. written hits before) all ∙ ap₂ _++_ (take-at room (x ∷ rest) (length before) same) (drop-of-length-le before {i = length (room ++ x ∷ rest)} (omega arith)) ∙ append-nil room);
       }
 
   -- no hit is left
