@@ -58,9 +58,10 @@ pub fn first_hit(run: Run, source: Source, start: RunCell) -> FirstHit
     if let Verdict::Refused(number) = judge(run, source, start) {
         return FirstHit::Refused(number);
     }
-    let cell = search::find_hit(run, source, start.0);
-    if cell < scope::cells(run) {
-        return FirstHit::At(RunCell(cell));
+    let cell = search::find_hit(run, source, start);
+    let all = scope::cells(run);
+    if cell.0 < all {
+        return FirstHit::At(cell);
     }
     FirstHit::Nothing
 }

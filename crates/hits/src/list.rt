@@ -21,7 +21,8 @@ pub fn write_hits(run: Run, source: Source, start: u64, room: &mut [u64]) -> Lis
     let period = source.period;
     let end = walk::offset_at(window as u64, window);
     let walk = walk::plan(run, source);
-    let mut cell = search::find_hit(run, source, start);
+    let from = search::find_hit(run, source, RunCell(start));
+    let mut cell = from.0;
     let mut offset = walk::offset_at(cell % window as u64, window);
     let mut at = walk::place_of(run, source, cell);
     let mut next = all;

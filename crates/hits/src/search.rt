@@ -1,6 +1,7 @@
 // Where a source comes into the window: its distance on a line, and the first hit from a line or a cell on.
 // No function here loops over lines or hits: a point is carried down the division sequence of 002, O(log p) rounds.
 use scope::Run;
+use scope::RunCell;
 use scope::Source;
 ghost use mathlib.Core.Path.{_≡_};
 ghost use Prim.Native.Nat.{ℕ, _+_, _-_, _*_, _%_, _≤_, _<_, max};
@@ -120,9 +121,9 @@ pub fn distance(run: Run, source: Source, line: u64) -> u64
 }
 
 // The first hit on this line or a later one, or the number of cells if there is none.
-fn find_from_line(run: Run, source: Source, line: u64) -> u64
+fn find_from_line(run: Run, source: Source, line: u64) -> RunCell
     requires { ⌜ Valid run × ValidSource source × (run .first ≤ line) × (line ≤ run .last + 1) ⌝ }
-    ensures { λ r. ⌜ FirstFrom run source ((line - run .first) * run .window) r ⌝ }
+    ensures { λ r. ⌜ FirstFrom run source ((line - run .first) * run .window) (r .0) ⌝ }
 {
     let window = run.window as u64;
     let period = source.period as u64;
@@ -138,25 +139,25 @@ fn find_from_line(run: Run, source: Source, line: u64) -> u64
         line,
     };
     match seek(stage, at, window, run.last as u64) {
-        Found::At(to) => (to.line - run.first as u64) * window + to.distance,
-        Found::Nothing => scope::cells(run),
+        Found::At(to) => RunCell((to.line - run.first as u64) * window + to.distance),
+        Found::Nothing => RunCell(scope::cells(run)),
     }
 }
 
 // Inner step. The first hit not below `start`, or the number of cells if there is none: on the rest of its own line the
 // point at or right of it is a remainder away, and if that lies past the window the lines after it are searched.
-pub fn find_hit(run: Run, source: Source, start: u64) -> u64
-    requires { ⌜ Valid run × ValidSource source × (start < cellsOf run) ⌝ }
-    ensures { λ r. ⌜ FirstFrom run source start r ⌝ }
+pub fn find_hit(run: Run, source: Source, start: RunCell) -> RunCell
+    requires { ⌜ Valid run × ValidSource source × start .0 < cellsOf run ⌝ }
+    ensures { λ r. ⌜ FirstFrom run source (start .0) (r .0) ⌝ }
 {
     let window = run.window as u64;
     let period = source.period as u64;
-    let passed = start / window;
+    let passed = start.0 / window;
     let line = run.first as u64 + passed;
-    let from = start % window;
+    let from = start.0 % window;
     let to = from + (distance(run, source, line) + (period - from % period)) % period;
     if to < window {
-        return start - from + to;
+        return RunCell(start.0 - from + to);
     }
     find_from_line(run, source, line + 1)
 }

@@ -2,6 +2,7 @@
 // Every function is proved. `add_to_map` is the one public operation, and it asks nothing of its caller.
 use scope::BlockCell;
 use scope::Run;
+use scope::RunCell;
 use scope::Source;
 use scope::Verdict;
 ghost use mathlib.Core.Path.{_≡_};
@@ -82,7 +83,8 @@ fn add_hits(run: Run, source: Source, weight: u8, map: &mut [u8])
     ensures { λ _. ⌜ now (map .exit) ≡ added 255 run (record { source = source; weight = weight } ∷ []) (now (map .entry)) ⌝ }
 {
     let walk = hits::walk::plan(run, source);
-    let mut at = hits::walk::place_of(run, source, hits::search::find_hit(run, source, 0));
+    let first = hits::search::find_hit(run, source, RunCell(0));
+    let mut at = hits::walk::place_of(run, source, first.0);
     let mut cell = at.cell as usize;
     while cell < map.len() {
         map[cell] = plus(map[cell], weight);

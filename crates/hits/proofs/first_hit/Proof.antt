@@ -38,14 +38,14 @@ cells-requires c κs = granted (c .before) .valid
 returns-2 : tie.Need-returns-2
 unfolding FirstHitPromise
 returns-2 c =
-    let f = c .before .before in
-    ap answered (first-is (f .find-hit .ensures) (rw (c .before .cells .ensures) at (c .if1 .taken))) ∙ grant-reply _ (passes (f .before))
+    let f = c .before .before .before in
+    ap answered (first-is (f .find-hit .ensures) (rw (c .before .before .cells .ensures) at (c .if1 .taken))) ∙ grant-reply _ (passes (f .before))
 
 returns-3 : tie.Need-returns-3
 unfolding FirstHitPromise
 returns-3 c =
-    let f = c .before .before in
-    ap answered (first-isn't (f .find-hit .ensures) (rw (c .before .cells .ensures) at (c .if1 .left))) ∙ grant-reply _ (passes (f .before))
+    let f = c .before .before .before in
+    ap answered (first-isn't (f .find-hit .ensures) (rw (c .before .before .cells .ensures) at (c .if1 .left))) ∙ grant-reply _ (passes (f .before))
 
 pub first-hit-spec : {M : Type 1} → statement M
 first-hit-spec =

@@ -59,7 +59,7 @@ fixed c =
       leads = c .before .before .before .plan .ensures;
     }
 
-begun : (c : tie.After-place-of Inv-loop μ-loop Inv-lines μ-lines) → let a = c .before .before .before .before .before .before .before .args in Head (a .run) (a .source) (a .start) (a .room .now) (a .room .now) 0 (c .before .before .find-hit .result) (ofZ w64 (c .before .offset-at2 .result)) (c .place-of .result)
+begun : (c : tie.After-place-of Inv-loop μ-loop Inv-lines μ-lines) → let a = c .before .before .before .before .before .before .before .args in Head (a .run) (a .source) (a .start) (a .room .now) (a .room .now) 0 (c .before .before .find-hit .result .0) (ofZ w64 (c .before .offset-at2 .result)) (c .place-of .result)
 unfolding offsetOf
 begun c =
     let f = c .before .before in
@@ -67,14 +67,14 @@ begun c =
     let e = c .before .offset-at2 .ensures in
     let w = s .pre .0 .wide in
     let some = s .pre .0 .narrow in
-    let m = mod-lt (f .find-hit .result) {m = s .args .run .window} (omega arith) in
+    let m = mod-lt (f .find-hit .result .0) {m = s .args .run .window} (omega arith) in
     record {
       kept = kept-start (f .find-hit .ensures);
       running = λ h. record {
         stands = c .place-of .ensures .stands (f .find-hit .ensures .hit h);
         line = c .place-of .ensures .line;
         hit = f .find-hit .ensures .hit h;
-        offset-is = toZ-ofZ (fits-at (f .find-hit .result % s .args .run .window) (s .args .run .window / 2) e (omega arith) (omega arith)) ∙ e;
+        offset-is = toZ-ofZ (fits-at (f .find-hit .result .0 % s .args .run .window) (s .args .run .window / 2) e (omega arith) (omega arith)) ∙ e;
       };
     }
 
@@ -137,7 +137,7 @@ offset-at-requires-2 c κs =
     let s = c .before .before .before .before .before in
     let w = s .pre .0 .wide in
     let some = s .pre .0 .narrow in
-    (omega (arith, mod-lt (c .find-hit .result) {m = s .args .run .window} (omega arith)), w)
+    (omega (arith, mod-lt (c .find-hit .result .0) {m = s .args .run .window} (omega arith)), w)
 
 place-of-requires : tie.Need-place-of-requires Inv-loop μ-loop Inv-lines μ-lines
 place-of-requires c κs = let s = c .before .before .before .before .before .before in (s .pre .0, s .pre .1, c .before .find-hit .ensures .to)

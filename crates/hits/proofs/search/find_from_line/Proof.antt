@@ -49,20 +49,20 @@ seek-requires c κs =
 enum-known-to : tie.Need-enum-known-to
 enum-known-to c = search needs
 
-cast-result : tie.Need-cast-result
-cast-result c = search needs
+cast-t13 : tie.Need-cast-t13
+cast-t13 c = search needs
 
-sub-result : tie.Need-sub-result
-sub-result c = let r = reached (c .before .before .before) in omega arith
+sub-t14 : tie.Need-sub-t14
+sub-t14 c = let r = reached (c .before .before .before) in omega arith
 
-mul-result : tie.Need-mul-result
-mul-result c =
+mul-t15 : tie.Need-mul-t15
+mul-t15 c =
     let f = found (c .before .before .before) in
     let few = cells-few (c .before .before .before .before .before .before .before .before .before .before .before .pre .0) in
     record { fits = omega arith }
 
-add-result : tie.Need-add-result
-add-result c =
+add-t16 : tie.Need-add-t16
+add-t16 c =
     let f = found (c .before .before .before .before) in
     let few = cells-few (c .before .before .before .before .before .before .before .before .before .before .before .before .pre .0) in
     record { fits = omega arith }
@@ -97,10 +97,10 @@ find-from-line-spec =
     cast-seek-2
     seek-requires
     enum-known-to
-    cast-result
-    sub-result
-    mul-result
-    add-result
+    cast-t13
+    sub-t14
+    mul-t15
+    add-t16
     enum-told
     cells-requires
     returns

@@ -9,8 +9,8 @@ use Rattle.hits.proofs.search.find_hit.Statement.{statement}
 use Rattle.hits.proofs.search.find_hit.Tie as tie
 
 -- the start's own line
-line-in : (c : tie.After-struct-known3) → let a = c .before .before .before .args in a .run .first + a .start / a .run .window ≤ a .run .last
-line-in c = let s = c .before .before .before in own-line (s .pre .0) (s .pre .2)
+line-in : (s : tie.Start) → let a = s .args in a .run .first + a .start .0 / a .run .window ≤ a .run .last
+line-in s = own-line (s .pre .0) (s .pre .2)
 
 cast-window : tie.Need-cast-window
 cast-window c = search needs
@@ -25,23 +25,23 @@ div-passed : tie.Need-div-passed
 div-passed c = search needs
 
 add-line : tie.Need-add-line
-add-line c = let l = line-in c in record { fits = omega arith }
+add-line c = let l = line-in (c .before .before .before .before) in record { fits = omega arith }
 
 rem-from : tie.Need-rem-from
 rem-from c = search needs
 
 distance-requires : tie.Need-distance-requires
-distance-requires c κs = let s = c .before .before .before in let l = line-in c in (s .pre .0, s .pre .1, omega (arith, s .pre .0 .ends))
+distance-requires c κs = let s = c .before .before .before .before .before in let l = line-in s in (s .pre .0, s .pre .1, omega (arith, s .pre .0 .ends))
 
 rem-to : tie.Need-rem-to
 rem-to c = search needs
 
 sub-to : tie.Need-sub-to
-sub-to c = let s = c .before .before .before .before in omega (arith, mod-lt (s .args .start % s .args .run .window) (s .pre .1 .ticks))
+sub-to c = let s = c .before .before .before .before .before .before in omega (arith, mod-lt (s .args .start .0 % s .args .run .window) (s .pre .1 .ticks))
 
 add-to : tie.Need-add-to
 add-to c =
-    let s = c .before .before .before .before in
+    let s = c .before .before .before .before .before .before in
     let low = distance-low (s .pre .0) (s .pre .1) (omega arith) (c .distance .ensures) in
     record { fits = omega (arith, s .pre .1 .fits) }
 
@@ -50,39 +50,39 @@ rem-to-2 c = search needs
 
 add-to-2 : tie.Need-add-to-2
 add-to-2 c =
-    let s = c .before .before .before .before in
-    let small = mod-lt (c .distance .result + (s .args .source .period - s .args .start % s .args .run .window % s .args .source .period)) (s .pre .1 .ticks) in
+    let s = c .before .before .before .before .before .before in
+    let small = mod-lt (c .distance .result + (s .args .source .period - s .args .start .0 % s .args .run .window % s .args .source .period)) (s .pre .1 .ticks) in
     let few = s .pre .0 .narrow in
-    let from = mod-lt (s .args .start) {m = s .args .run .window} (omega arith) in
+    let from = mod-lt (s .args .start .0) {m = s .args .run .window} (omega arith) in
     record { fits = omega (arith, s .pre .1 .fits, s .pre .0 .wide) }
 
-sub-result : tie.Need-sub-result
-sub-result c = let s = c .before .before .before .before .before in omega (arith, mod-le (s .args .start) (s .args .run .window))
+sub-t16 : tie.Need-sub-t16
+sub-t16 c = let s = c .before .before .before .before .before .before .before .before in omega (arith, mod-le (s .args .start .0) (s .args .run .window))
 
-add-result : tie.Need-add-result
-add-result c =
-    let d = c .before in
-    let s = d .before .before .before .before in
-    let f = rest-found (s .pre .0) (s .pre .2) (s .pre .1) (d .distance .ensures) (c .if1 .taken) in
+add-t17 : tie.Need-add-t17
+add-t17 c =
+    let d = c .before .before in
+    let s = d .before .before .before .before .before .before in
+    let f = rest-found (s .pre .0) (s .pre .2) (s .pre .1) (d .distance .ensures) (c .before .if1 .taken) in
     record { fits = omega (arith, f .to, cells-few (s .pre .0)) }
 
 returns : tie.Need-returns
 returns c =
-    let d = c .before in
-    let s = d .before .before .before .before in
-    rest-found (s .pre .0) (s .pre .2) (s .pre .1) (d .distance .ensures) (c .if1 .taken)
+    let d = c .before .before in
+    let s = d .before .before .before .before .before .before in
+    rest-found (s .pre .0) (s .pre .2) (s .pre .1) (d .distance .ensures) (c .before .if1 .taken)
 
 add-find-from-line : tie.Need-add-find-from-line
-add-find-from-line c = let l = line-in (c .before .before) in record { fits = omega arith }
+add-find-from-line c = let l = line-in (c .before .before .before .before .before .before .before) in record { fits = omega arith }
 
 find-from-line-requires : tie.Need-find-from-line-requires
-find-from-line-requires c κs = let k = c .before .before in let s = k .before .before .before in let l = line-in k in (s .pre .0, s .pre .1, omega arith, omega arith)
+find-from-line-requires c κs = let s = c .before .before .before .before .before .before .before in let l = line-in s in (s .pre .0, s .pre .1, omega arith, omega arith)
 
 returns-2 : tie.Need-returns-2
 returns-2 c =
     let i = c .before in
     let d = i .before in
-    let s = d .before .before .before .before in
+    let s = d .before .before .before .before .before .before in
     rest-none (s .pre .0) (s .pre .2) (s .pre .1) (d .distance .ensures) (i .if1 .left) (c .find-from-line .ensures)
 
 pub find-hit-spec : {M : Type 1} → statement M
@@ -101,8 +101,8 @@ find-hit-spec =
     add-to
     rem-to-2
     add-to-2
-    sub-result
-    add-result
+    sub-t16
+    add-t17
     returns
     add-find-from-line
     find-from-line-requires
