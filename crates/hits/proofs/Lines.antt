@@ -40,7 +40,7 @@ pub record Fixed (run : Run) (source : Source) (all period end : ℕ) (walk : Wa
 -- a hit cell, its offset, and the first hit of its line
 pub record Running (run : Run) (source : Source) (at : Place) (cell offset : ℕ) : Type 0 where
   pub stands : Stands run source at
-  pub line : at .cell / run .window ≡ cell / run .window
+  pub line : at .cell .0 / run .window ≡ cell / run .window
   pub hit : isHit run source cell ≡ true
   pub offset-is : toZ w64 offset ≡ offsetOf run cell
 
@@ -52,13 +52,13 @@ pub record Head (run : Run) (source : Source) (start : ℕ) (before room : List 
 -- within the line of `at`, at distance e from the left edge, which may be past the line's end
 pub record Inside (run : Run) (source : Source) (start : ℕ) (before room : List ℕ) (n cell offset : ℕ) (at : Place) : Type 0 where
   pub stands : Stands run source at
-  pub below : at .cell < cellsOf run
+  pub below : at .cell .0 < cellsOf run
   pub e : ℕ
-  pub cell-is : cell ≡ at .cell / run .window * run .window + e
+  pub cell-is : cell ≡ at .cell .0 / run .window * run .window + e
   pub offset-is : toZ w64 offset ≡ pos e -ℤ pos (run .window / 2)
-  pub on : Points run source e (run .first + at .cell / run .window)
+  pub on : Points run source e (run .first + at .cell .0 / run .window)
   pub near : e < run .window + source .period
-  pub kept : Kept run source start before room n (at .cell / run .window * run .window + min e (run .window))
+  pub kept : Kept run source start before room n (at .cell .0 / run .window * run .window + min e (run .window))
 
 module _ {run : Run} {source : Source} {start all period end : ℕ} {walk : Walk} (fixed : Fixed run source all period end walk) {before : List ℕ} where
   -- into a line
@@ -71,13 +71,13 @@ module _ {run : Run} {source : Source} {start all period end : ℕ} {walk : Walk
       let some = v .narrow in
       let m = mod-lt cell {m = run .window} (omega arith) in
       let parts′ = div-add-mod' cell (run .window) in
-      let am = mod-lt (at .cell) {m = run .window} (omega arith) in
-      let aparts = div-add-mod' (at .cell) (run .window) in
-      let there : cell ≡ at .cell / run .window * run .window + cell % run .window = omega (arith, ap (λ k. k * run .window) line) in
-      let same : at .cell / run .window * run .window + min (cell % run .window) (run .window) ≡ cell = omega (arith, there) in
+      let am = mod-lt (at .cell .0) {m = run .window} (omega arith) in
+      let aparts = div-add-mod' (at .cell .0) (run .window) in
+      let there : cell ≡ at .cell .0 / run .window * run .window + cell % run .window = omega (arith, ap (λ k. k * run .window) line) in
+      let same : at .cell .0 / run .window * run .window + min (cell % run .window) (run .window) ≡ cell = omega (arith, there) in
       record {
         stands = r .stands;
-        below = omega (arith, inside-cells (at .cell / run .window) {e = at .cell % run .window} v am (rw line (own-line v (omega (arith, fixed .all-is)))));
+        below = omega (arith, inside-cells (at .cell .0 / run .window) {e = at .cell .0 % run .window} v am (rw line (own-line v (omega (arith, fixed .all-is)))));
         e = cell % run .window;
         cell-is = there;
         offset-is = r .offset-is;
@@ -115,13 +115,13 @@ module _ {run : Run} {source : Source} {start all period end : ℕ} {walk : Walk
 
     module _ (in′ : i .e < run .window) where
       pub cell-in : cell < cellsOf run
-      cell-in = rw (i .cell-is) (inside-cells (at .cell / run .window) (fixed .valid) in′ (own-line (fixed .valid) (i .below)))
+      cell-in = rw (i .cell-is) (inside-cells (at .cell .0 / run .window) (fixed .valid) in′ (own-line (fixed .valid) (i .below)))
 
       pub cell-hit : isHit run source cell ≡ true
-      cell-hit = rw (i .cell-is) (hit-point run source (at .cell / run .window) in′ (i .on))
+      cell-hit = rw (i .cell-is) (hit-point run source (at .cell .0 / run .window) in′ (i .on))
 
       pub kept-here : Kept run source start before room n cell
-      kept-here = let same : at .cell / run .window * run .window + min (i .e) (run .window) ≡ cell = omega (arith, i .cell-is) in rw same at (i .kept)
+      kept-here = let same : at .cell .0 / run .window * run .window + min (i .e) (run .window) ≡ cell = omega (arith, i .cell-is) in rw same at (i .kept)
 
       -- the next offset
       period-held : toZ w64 period ≡ pos (source .period)
@@ -142,12 +142,12 @@ module _ {run : Run} {source : Source} {start all period end : ℕ} {walk : Walk
           toZ-ofZ offset-fits ∙ rw period-held e
 
       -- no hit between this one and the next, or the line's end
-      gap : (z : ℕ) → cell + 1 ≤ z → z < at .cell / run .window * run .window + min (i .e + source .period) (run .window) → isHit run source z ≡ false
+      gap : (z : ℕ) → cell + 1 ≤ z → z < at .cell .0 / run .window * run .window + min (i .e + source .period) (run .window) → isHit run source z ≡ false
       gap z a b = missed (fixed .valid) source z (λ k d h is o.
           let some = fixed .valid .narrow in
-          let up = rows-le {k = k} {l = at .cell / run .window} {I = run .window} {e = run .window - 1} (omega arith) (omega arith) in
-          let down = rows-le {k = at .cell / run .window} {l = k} h (omega (arith, i .cell-is)) in
-          let same : k ≡ at .cell / run .window = omega arith in
+          let up = rows-le {k = k} {l = at .cell .0 / run .window} {I = run .window} {e = run .window - 1} (omega arith) (omega arith) in
+          let down = rows-le {k = at .cell .0 / run .window} {l = k} h (omega (arith, i .cell-is)) in
+          let same : k ≡ at .cell .0 / run .window = omega arith in
           let far = leftmost-next (fixed .source-valid .ticks) (i .on) .least d (omega (arith, i .cell-is, ap (λ x. x * run .window) same)) (subst (λ x. Points run source d (run .first + x)) same o) in
           omega (arith, ap (λ x. x * run .window) same))
 
@@ -166,25 +166,25 @@ module _ {run : Run} {source : Source} {start all period end : ℕ} {walk : Walk
           }
 
     -- from the line's end to the next line
-    pub leave : {to : Place} → run .window ≤ i .e → NextLine run source at to → Head run source start before room n (to .cell) (ofZ w64 (to .offset)) to
+    pub leave : {to : Place} → run .window ≤ i .e → NextLine run source at to → Head run source start before room n (to .cell .0) (ofZ w64 (to .offset)) to
     unfolding offsetOf lineOf
     leave {to} out nl =
         let v = fixed .valid in
         let w = v .wide in
         let some = v .narrow in
-        let m = mod-lt (to .cell) {m = run .window} (omega arith) in
+        let m = mod-lt (to .cell .0) {m = run .window} (omega arith) in
         let s = nl .stands in
-        let end′ : at .cell / run .window * run .window + min (i .e) (run .window) ≡ (at .cell / run .window + 1) * run .window = omega arith in
-        let lines : at .cell / run .window + 1 ≤ to .cell / run .window = omega (arith, nl .later) in
+        let end′ : at .cell .0 / run .window * run .window + min (i .e) (run .window) ≡ (at .cell .0 / run .window + 1) * run .window = omega arith in
+        let lines : at .cell .0 / run .window + 1 ≤ to .cell .0 / run .window = omega (arith, nl .later) in
         record {
-          kept = kept-over (omega (arith, mul-le-mul-right (run .window) lines, div-add-mod' (to .cell) (run .window))) (λ z a b.
+          kept = kept-over (omega (arith, mul-le-mul-right (run .window) lines, div-add-mod' (to .cell .0) (run .window))) (λ z a b.
               let zm = mod-lt z {m = run .window} (omega arith) in
-              nl .none z (omega (arith, rows-le {k = at .cell / run .window + 1} {l = z / run .window} zm (omega (arith, div-add-mod' z (run .window))))) b) (rw end′ at (i .kept));
+              nl .none z (omega (arith, rows-le {k = at .cell .0 / run .window + 1} {l = z / run .window} zm (omega (arith, div-add-mod' z (run .window))))) b) (rw end′ at (i .kept));
           running = λ h. record {
             stands = s;
             line = refl;
             hit = s .hit;
-            offset-is = toZ-ofZ (fits-at (to .cell % run .window) (run .window / 2) (s .offset) (omega arith) (omega arith)) ∙ s .offset;
+            offset-is = toZ-ofZ (fits-at (to .cell .0 % run .window) (run .window / 2) (s .offset) (omega arith) (omega arith)) ∙ s .offset;
           };
         }
 
@@ -215,10 +215,10 @@ module _ {run : Run} {source : Source} {start : ℕ} {before room : List ℕ} {n
   says-done h = kept-done h (ended .kept)
 
 -- the walk gets on: from a hit of a line to one of a later line
-pub gets-on : {run : Run} {source : Source} {at to : Place} {cell offset : ℕ} → Valid run → Running run source at cell offset → NextLine run source at to → cell < to .cell
+pub gets-on : {run : Run} {source : Source} {at to : Place} {cell offset : ℕ} → Valid run → Running run source at cell offset → NextLine run source at to → cell < to .cell .0
 unfolding lineOf
 gets-on {run} {source} {at} {to} {cell} v r nl =
     let some = v .narrow in
     let m = mod-lt cell {m = run .window} (omega arith) in
-    let lines : cell / run .window + 1 ≤ to .cell / run .window = omega (arith, nl .later, r .line) in
-    omega (arith, mul-le-mul-right (run .window) lines, div-add-mod' cell (run .window), div-add-mod' (to .cell) (run .window))
+    let lines : cell / run .window + 1 ≤ to .cell .0 / run .window = omega (arith, nl .later, r .line) in
+    omega (arith, mul-le-mul-right (run .window) lines, div-add-mod' cell (run .window), div-add-mod' (to .cell .0) (run .window))

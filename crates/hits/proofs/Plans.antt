@@ -39,7 +39,7 @@ module _ {run : Run} (v : Valid run) {source : Source} (s : ValidSource source) 
   pub row-start : cell - cell % run .window + leading ≡ cell / run .window * run .window + leading
   row-start = omega (arith, div-add-mod' cell (run .window))
 
-  pub begins : {offset : ℤ} → offset ≡ pos leading -ℤ pos (run .window / 2) → Begins run source cell (record { offset = offset; cell = cell - cell % run .window + leading })
+  pub begins : {offset : ℤ} → offset ≡ pos leading -ℤ pos (run .window / 2) → Begins run source cell (record { offset = offset; cell = record { 0 = cell - cell % run .window + leading } })
   unfolding offsetOf lineOf
   begins {offset} o = rw row-start (record { line = line; stands = stands })
     where
@@ -49,7 +49,7 @@ module _ {run : Run} (v : Valid run) {source : Source} (s : ValidSource source) 
       line : (cell / run .window * run .window + leading) / run .window ≡ cell / run .window
       line = omega (arith, line-at run (cell / run .window) leads-in)
 
-      stands : isHit run source cell ≡ true → Stands run source (record { offset = offset; cell = cell / run .window * run .window + leading })
+      stands : isHit run source cell ≡ true → Stands run source (record { offset = offset; cell = record { 0 = cell / run .window * run .window + leading } })
       stands h = record {
         hit = hit-point run source (cell / run .window) leads-in (first-point run source (point-hit run source cell h));
         leftmost = rw place (mod-lt (cell % run .window) (s .ticks));

@@ -34,48 +34,48 @@ first-point run source {d} o = record { cong = cong-trans (cong-mod (source .per
 
 -- ---- where a step leads
 
-module _ {run : Run} (v : Valid run) {source : Source} (s : ValidSource source) {at : Place} (to : Place) (here : Stands run source at) {Y e : ℕ} (next : Next (source .period) (run .interval % source .period) (width run source) (at .cell % run .window) Y e) (is : to .cell ≡ (at .cell / run .window + Y) * run .window + e) where
+module _ {run : Run} (v : Valid run) {source : Source} (s : ValidSource source) {at : Place} (to : Place) (here : Stands run source at) {Y e : ℕ} (next : Next (source .period) (run .interval % source .period) (width run source) (at .cell .0 % run .window) Y e) (is : to .cell .0 ≡ (at .cell .0 / run .window + Y) * run .window + e) where
   inside : e < run .window
   inside = omega (arith, next .inside)
 
-  there : Points run source e (run .first + (at .cell / run .window + Y))
-  there = subst (λ x. Points run source e x) (omega arith) (arrive run source (point-hit run source (at .cell) (here .hit)) (next .way))
+  there : Points run source e (run .first + (at .cell .0 / run .window + Y))
+  there = subst (λ x. Points run source e x) (omega arith) (arrive run source (point-hit run source (at .cell .0) (here .hit)) (next .way))
 
   stands : to .offset ≡ pos e -ℤ pos (run .window / 2) → Stands run source to
   unfolding offsetOf
   stands o =
-      let place : to .cell % run .window ≡ e = rw is (distance-at run (at .cell / run .window + Y) inside) in
+      let place : to .cell .0 % run .window ≡ e = rw is (distance-at run (at .cell .0 / run .window + Y) inside) in
       record {
-        hit = rw is (hit-point run source (at .cell / run .window + Y) inside there);
+        hit = rw is (hit-point run source (at .cell .0 / run .window + Y) inside there);
         leftmost = omega (arith, next .inside);
         offset = rw place o;
       }
 
-  rises : at .cell < to .cell
+  rises : at .cell .0 < to .cell .0
   rises =
       let some = v .narrow in
-      let d = mod-lt (at .cell) {m = run .window} (omega arith) in
+      let d = mod-lt (at .cell .0) {m = run .window} (omega arith) in
       let more = mul-le-mul-right (run .window) (next .later) in
-      omega (arith, is, div-add-mod' (at .cell) (run .window))
+      omega (arith, is, div-add-mod' (at .cell .0) (run .window))
 
-  later : lineOf run (at .cell) < lineOf run (to .cell)
+  later : lineOf run (at .cell .0) < lineOf run (to .cell .0)
   unfolding lineOf
   later =
-      let l : lineOf run (to .cell) ≡ run .first + (at .cell / run .window + Y) = rw is (line-at run (at .cell / run .window + Y) inside) in
+      let l : lineOf run (to .cell .0) ≡ run .first + (at .cell .0 / run .window + Y) = rw is (line-at run (at .cell .0 / run .window + Y) inside) in
       omega (arith, next .later)
 
-  none : (z : ℕ) → lineOf run (at .cell) < lineOf run z → z < to .cell → isHit run source z ≡ false
+  none : (z : ℕ) → lineOf run (at .cell .0) < lineOf run z → z < to .cell .0 → isHit run source z ≡ false
   unfolding lineOf
   none z later before = miss-point run source z (λ o.
       let some = v .narrow in
       let zd = mod-lt z {m = run .window} (omega arith) in
       let zp = mod-lt (z % run .window) (s .ticks) in
       let zl = mod-le (z % run .window) (source .period) in
-      let l : run .first + at .cell / run .window ≤ run .first + z / run .window = omega arith in
-      let w = way run source l (point-hit run source (at .cell) (here .hit)) (first-point run source o) in
-      let past = next .least (run .first + z / run .window - (run .first + at .cell / run .window)) (z % run .window % source .period) (omega arith) (omega arith) w in
-      let low = rows-le {k = z / run .window} {l = at .cell / run .window + Y} inside (omega (arith, is, div-add-mod' z (run .window))) in
-      let same : z / run .window ≡ at .cell / run .window + Y = omega arith in
+      let l : run .first + at .cell .0 / run .window ≤ run .first + z / run .window = omega arith in
+      let w = way run source l (point-hit run source (at .cell .0) (here .hit)) (first-point run source o) in
+      let past = next .least (run .first + z / run .window - (run .first + at .cell .0 / run .window)) (z % run .window % source .period) (omega arith) (omega arith) w in
+      let low = rows-le {k = z / run .window} {l = at .cell .0 / run .window + Y} inside (omega (arith, is, div-add-mod' z (run .window))) in
+      let same : z / run .window ≡ at .cell .0 / run .window + Y = omega arith in
       let alike = cong-below (cong-trans (first-point run source o .cong) (cong-sym (subst (λ x. Points run source e (run .first + x)) (sym same) there .cong))) zp (omega (arith, next .inside)) in
       omega (arith, is, div-add-mod' z (run .window), ap (λ x. x * run .window) same))
 
@@ -165,14 +165,14 @@ small {run} {source} {walk} {at} v s l here =
     let w = v .wide in
     let some = v .narrow in
     let half : run .window / 2 ≤ 4096 = omega arith in
-    let d = mod-lt (at .cell) {m = run .window} (omega arith) in
+    let d = mod-lt (at .cell .0) {m = run .window} (omega arith) in
     let a = l .left-short in
     let c = l .right-short in
     let β = mul-le-mul (l .left-few) w in
     let δ = mul-le-mul (l .right-few) w in
     let p = s .fits in
     record {
-      offset = rw (here .offset) (near (at .cell % run .window) (run .window / 2) (omega arith) half);
+      offset = rw (here .offset) (near (at .cell .0 % run .window) (run .window / 2) (omega arith) half);
       low = rw (l .low) (near (l .from) (run .window / 2) (omega (arith, l .from-short)) half);
       high = rw (l .high) (near (l .below) (run .window / 2) (omega (arith, l .below-short)) half);
       left = rw (l .left-offset) (omega (arith, parts, neg-dn (pos 4096), neg-up (pos 4096), neg-dn (pos (l .A)), neg-up (pos (l .A))), omega (arith, parts, neg-dn (pos (l .A)), neg-up (pos (l .A))));
@@ -206,17 +206,17 @@ module _ {walk : Walk} {at : Place} (w : Walking walk at) where
   movable-both = movable (walk .both) (sizes .both) (sizes .both-cells)
 
   -- no step leads far
-  pub lands-low : {step : Step} {to : Place} → Movable at step → Moved at step to → to .cell < 2 ^ 46
+  pub lands-low : {step : Step} {to : Place} → Movable at step → Moved at step to → to .cell .0 < 2 ^ 46
   lands-low h m = omega (arith, m .cell, h .cell, h .cells)
 
 module _ {run : Run} (v : Valid run) {source : Source} (s : ValidSource source) {walk : Walk} (l : Leads run source walk) {at : Place} (here : Stands run source at) where
   -- the distance at which the walk stands, by its offset
-  distance-in : at .cell % run .window < width run source
-  distance-in = let some = v .narrow in let d = mod-lt (at .cell) {m = run .window} (omega arith) in omega (arith, here .leftmost)
+  distance-in : at .cell .0 % run .window < width run source
+  distance-in = let some = v .narrow in let d = mod-lt (at .cell .0) {m = run .window} (omega arith) in omega (arith, here .leftmost)
 
-  by-distance : at .offset +ℤ pos (run .window / 2) ≡ pos (at .cell % run .window)
+  by-distance : at .offset +ℤ pos (run .window / 2) ≡ pos (at .cell .0 % run .window)
   unfolding offsetOf
-  by-distance = rw (here .offset) (apart-by (at .cell % run .window) (run .window / 2))
+  by-distance = rw (here .offset) (apart-by (at .cell .0 % run .window) (run .window / 2))
 
   held : (z : ℤ) → (negℤ (pos 4096) ≤ℤ z) × (z ≤ℤ pos 4096) → toZ w64 (ofZ w64 z) ≡ z
   held z h = toZ-ofZ (near-fits z (h .0) (h .1))
@@ -228,37 +228,37 @@ module _ {run : Run} (v : Valid run) {source : Source} (s : ValidSource source) 
   high-is = rw (l .high) (apart-by (l .below) (run .window / 2))
 
   -- the two tests, passed and failed
-  low-true : leZ (toZ w64 (ofZ w64 (walk .low))) (toZ w64 (ofZ w64 (at .offset))) ≡ true → l .from ≤ at .cell % run .window
+  low-true : leZ (toZ w64 (ofZ w64 (walk .low))) (toZ w64 (ofZ w64 (at .offset))) ≡ true → l .from ≤ at .cell .0 % run .window
   low-true t = let n = small v s l here in shifted-le (walk .low) (at .offset) (run .window / 2) low-is by-distance (leZ-true (walk .low) (at .offset) (rw (held (walk .low) (n .low), held (at .offset) (n .offset)) at t))
 
-  low-false : leZ (toZ w64 (ofZ w64 (walk .low))) (toZ w64 (ofZ w64 (at .offset))) ≡ false → at .cell % run .window < l .from
+  low-false : leZ (toZ w64 (ofZ w64 (walk .low))) (toZ w64 (ofZ w64 (at .offset))) ≡ false → at .cell .0 % run .window < l .from
   low-false t = let n = small v s l here in shifted-lt (at .offset) (walk .low) (run .window / 2) by-distance low-is (leZ-false (walk .low) (at .offset) (rw (held (walk .low) (n .low), held (at .offset) (n .offset)) at t))
 
-  high-true : ltZ (toZ w64 (ofZ w64 (at .offset))) (toZ w64 (ofZ w64 (walk .high))) ≡ true → at .cell % run .window < l .below
+  high-true : ltZ (toZ w64 (ofZ w64 (at .offset))) (toZ w64 (ofZ w64 (walk .high))) ≡ true → at .cell .0 % run .window < l .below
   high-true t = let n = small v s l here in shifted-lt (at .offset) (walk .high) (run .window / 2) by-distance high-is (ltZ-true (at .offset) (walk .high) (rw (held (at .offset) (n .offset), held (walk .high) (n .high)) at t))
 
-  high-false : ltZ (toZ w64 (ofZ w64 (at .offset))) (toZ w64 (ofZ w64 (walk .high))) ≡ false → l .below ≤ at .cell % run .window
+  high-false : ltZ (toZ w64 (ofZ w64 (at .offset))) (toZ w64 (ofZ w64 (walk .high))) ≡ false → l .below ≤ at .cell .0 % run .window
   high-false t = let n = small v s l here in shifted-le (walk .high) (at .offset) (run .window / 2) high-is by-distance (ltZ-false (at .offset) (walk .high) (rw (held (at .offset) (n .offset), held (walk .high) (n .high)) at t))
 
   pub step-left : {to : Place} → leZ (toZ w64 (ofZ w64 (walk .low))) (toZ w64 (ofZ w64 (at .offset))) ≡ true → Moved at (walk .left) to → NextLine run source at to
   step-left {to} t m =
-      let g = l .goes-left (at .cell % run .window) distance-in (low-true t) in
+      let g = l .goes-left (at .cell .0 % run .window) distance-in (low-true t) in
       let a = g .0 in
       landed v s to here (g .1)
-      (omega (arith, m .cell, l .left-cells, div-add-mod' (at .cell) (run .window)))
+      (omega (arith, m .cell, l .left-cells, div-add-mod' (at .cell .0) (run .window)))
       (left-of (at .offset) (to .offset) (run .window / 2) (l .A) by-distance (rw (l .left-offset) at (m .offset)) a)
 
   pub step-right : {to : Place} → leZ (toZ w64 (ofZ w64 (walk .low))) (toZ w64 (ofZ w64 (at .offset))) ≡ false → ltZ (toZ w64 (ofZ w64 (at .offset))) (toZ w64 (ofZ w64 (walk .high))) ≡ true → Moved at (walk .right) to → NextLine run source at to
   step-right {to} t u m =
-      let g = l .goes-right (at .cell % run .window) distance-in (low-false t) (high-true u) in
+      let g = l .goes-right (at .cell .0 % run .window) distance-in (low-false t) (high-true u) in
       landed v s to here g
-      (omega (arith, m .cell, l .right-cells, div-add-mod' (at .cell) (run .window)))
+      (omega (arith, m .cell, l .right-cells, div-add-mod' (at .cell .0) (run .window)))
       (right-of (at .offset) (to .offset) (run .window / 2) (l .C) by-distance (rw (l .right-offset) at (m .offset)))
 
   pub step-both : {to : Place} → leZ (toZ w64 (ofZ w64 (walk .low))) (toZ w64 (ofZ w64 (at .offset))) ≡ false → ltZ (toZ w64 (ofZ w64 (at .offset))) (toZ w64 (ofZ w64 (walk .high))) ≡ false → Moved at (walk .both) to → NextLine run source at to
   step-both {to} t u m =
-      let g = l .goes-both (at .cell % run .window) distance-in (low-false t) (high-false u) in
+      let g = l .goes-both (at .cell .0 % run .window) distance-in (low-false t) (high-false u) in
       let a = g .0 in
       landed v s to here (g .1)
-      (omega (arith, m .cell, l .both-cells, l .left-cells, l .right-cells, div-add-mod' (at .cell) (run .window)))
+      (omega (arith, m .cell, l .both-cells, l .left-cells, l .right-cells, div-add-mod' (at .cell .0) (run .window)))
       (across (at .offset) (to .offset) (run .window / 2) (l .A) (l .C) by-distance (rw (l .both-offset) at (m .offset)) a)

@@ -48,13 +48,13 @@ pub record Movable (at : Place) (step : Step) : Type 0 where
   pub offset-high : at .offset ≤ℤ pos 4096
   pub step-low : negℤ (pos 8192) ≤ℤ step .offset
   pub step-high : step .offset ≤ℤ pos 8192
-  pub cell : at .cell ≤ 2 ^ 45
+  pub cell : at .cell .0 ≤ 2 ^ 45
   pub cells : step .cells ≤ 2 ^ 44
 
 -- The place `to` is the place `at` a step on.
 pub record Moved (at : Place) (step : Step) (to : Place) : Type 0 where
   pub offset : to .offset ≡ at .offset +ℤ step .offset
-  pub cell : to .cell ≡ at .cell + step .cells
+  pub cell : to .cell .0 ≡ at .cell .0 + step .cells
 
 -- The part of a line that has its first hit: the window, or a period where that is less.
 abbrev pub width : Run → Source → ℕ
@@ -89,9 +89,9 @@ pub record Leads (run : Run) (source : Source) (walk : Walk) : Type 0 where
 
 -- The place is the first hit of its line.
 pub record Stands (run : Run) (source : Source) (at : Place) : Type 0 where
-  pub hit : isHit run source (at .cell) ≡ true
-  pub leftmost : at .cell % run .window < source .period
-  pub offset : at .offset ≡ offsetOf run (at .cell)
+  pub hit : isHit run source (at .cell .0) ≡ true
+  pub leftmost : at .cell .0 % run .window < source .period
+  pub offset : at .offset ≡ offsetOf run (at .cell .0)
 
 -- A walk of some source over some run, at the first hit of a line of it.
 pub record Walking (walk : Walk) (at : Place) : Type 0 where
@@ -101,14 +101,14 @@ pub record Walking (walk : Walk) (at : Place) : Type 0 where
   pub source-valid : ValidSource source
   pub leads : Leads run source walk
   pub stands : Stands run source at
-  pub inside : at .cell < cellsOf run
+  pub inside : at .cell .0 < cellsOf run
 
 -- The place `to` is the first hit of the next line after `at` that has one.
 pub record NextLine (run : Run) (source : Source) (at to : Place) : Type 0 where
   pub stands : Stands run source to
-  pub later : lineOf run (at .cell) < lineOf run (to .cell)
-  pub rises : at .cell < to .cell
-  pub none : (z : ℕ) → lineOf run (at .cell) < lineOf run z → z < to .cell → isHit run source z ≡ false
+  pub later : lineOf run (at .cell .0) < lineOf run (to .cell .0)
+  pub rises : at .cell .0 < to .cell .0
+  pub none : (z : ℕ) → lineOf run (at .cell .0) < lineOf run z → z < to .cell .0 → isHit run source z ≡ false
 
 -- The same, for every run and source that the walk is for.
 abbrev pub Walks : Walk → Place → Place → Type 0
@@ -116,5 +116,5 @@ Walks walk at to = (run : Run) (source : Source) → Valid run → ValidSource s
 
 -- The place is that of the first hit of the line of a hit cell.
 pub record Begins (run : Run) (source : Source) (cell : ℕ) (at : Place) : Type 0 where
-  pub line : at .cell / run .window ≡ cell / run .window
+  pub line : at .cell .0 / run .window ≡ cell / run .window
   pub stands : isHit run source cell ≡ true → Stands run source at

@@ -78,5 +78,5 @@ pub fn list_hits(run: Run, source: Source, start: RunCell, room: &mut [u64]) -> 
     if room.len() == 0 {
         return Listing::Refused(9);
     }
-    list::write_hits(run, source, start.0, room)
+    list::write_hits(run, source, start, room)
 }

@@ -12,19 +12,19 @@ ghost use Rattle.hits.specs.List.{ListsFrom};
 // Inner step. The hits from `start` on, written until there are no more or the room is full: line by line, and on a line at
 // offsets that lie a period apart. `at` is the first hit of the line and `to` that of the next line that has one, worked out
 // before the line is written, so that the processor has it by then; `cell` and `offset` are those of the hit that is next.
-pub fn write_hits(run: Run, source: Source, start: u64, room: &mut [u64]) -> Listing
-    requires { ⌜ Valid run × ValidSource source × (start < cellsOf run) ⌝ }
-    ensures { λ r. ⌜ ListsFrom run source start (now (room .entry)) r (now (room .exit)) ⌝ }
+pub fn write_hits(run: Run, source: Source, start: RunCell, room: &mut [u64]) -> Listing
+    requires { ⌜ Valid run × ValidSource source × start .0 < cellsOf run ⌝ }
+    ensures { λ r. ⌜ ListsFrom run source (start .0) (now (room .entry)) r (now (room .exit)) ⌝ }
 {
     let all = scope::cells(run);
     let window = run.window;
     let period = source.period;
     let end = walk::offset_at(window as u64, window);
     let walk = walk::plan(run, source);
-    let from = search::find_hit(run, source, RunCell(start));
-    let mut cell = from.0;
+    let first = search::find_hit(run, source, start);
+    let mut cell = first.0;
     let mut offset = walk::offset_at(cell % window as u64, window);
-    let mut at = walk::place_of(run, source, cell);
+    let mut at = walk::place_of(run, source, first);
     let mut next = all;
     let mut n: usize = 0;
     'lines: while cell < all {
@@ -40,7 +40,7 @@ pub fn write_hits(run: Run, source: Source, start: u64, room: &mut [u64]) -> Lis
             cell += period as u64;
         }
         at = to;
-        cell = to.cell;
+        cell = to.cell.0;
         offset = to.offset;
     }
     if next < all {

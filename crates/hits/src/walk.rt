@@ -1,6 +1,7 @@
 // The walk of a source over a run: from the first hit of a line to the first hit of the next line that has one.
 // What it goes by is worked out once; a step is then at most two comparisons, and two sums.
 use scope::Run;
+use scope::RunCell;
 use scope::Source;
 use vectors::Basis;
 use vectors::Vector;
@@ -19,7 +20,7 @@ pub struct Step {
 // Where the walk stands: the first hit of a line.
 pub struct Place {
     pub offset: i64,
-    pub cell: u64,
+    pub cell: RunCell,
 }
 
 // What the walk goes by: the steps (α, β) and (γ, δ), the two as one, and from where and up to where each stays among the
@@ -106,16 +107,16 @@ pub fn plan(run: Run, source: Source) -> Walk
     }
 }
 
-// Inner step. The place of the first hit of a hit cell's line.
-pub fn place_of(run: Run, source: Source, cell: u64) -> Place
-    requires { ⌜ Valid run × ValidSource source × (cell ≤ cellsOf run) ⌝ }
-    ensures { λ r. ⌜ Begins run source cell r ⌝ }
+// Inner step. The place of the first hit on a hit cell's line; of a cell that is not hit, some place on its line.
+pub fn place_of(run: Run, source: Source, cell: RunCell) -> Place
+    requires { ⌜ Valid run × ValidSource source × cell .0 ≤ cellsOf run ⌝ }
+    ensures { λ r. ⌜ Begins run source (cell .0) r ⌝ }
 {
-    let from = cell % run.window as u64;
+    let from = cell.0 % run.window as u64;
     let first = from % source.period as u64;
     Place {
         offset: offset_at(first, run.window),
-        cell: cell - from + first,
+        cell: RunCell(cell.0 - from + first),
     }
 }
 
@@ -127,7 +128,7 @@ impl Place {
     {
         Place {
             offset: self.offset + step.offset,
-            cell: self.cell + step.cells,
+            cell: RunCell(self.cell.0 + step.cells),
         }
     }
 }
@@ -136,7 +137,7 @@ impl Walk {
     // Inner step. The first hit of the next line that has one: 002's proposition 2. Just one of its cases applies.
     pub fn next(self, at: Place) -> Place
         requires { ⌜ Walking self at ⌝ }
-        ensures { λ r. ⌜ (r .cell < 2 ^ 46) × Walks self at r ⌝ }
+        ensures { λ r. ⌜ (r .cell .0 < 2 ^ 46) × Walks self at r ⌝ }
     {
         if at.offset >= self.low {
             return at.moved(self.left);

@@ -51,8 +51,8 @@ pub record Begun (run : Run) (source : Source) (walk : Walk) (old : List ℕ) : 
 
 -- where it stands: the hits before are added, and this is the next one if it lies in the run
 pub record Walked (run : Run) (source : Source) (weight : ℕ) (old map : List ℕ) (at : Place) : Type 0 where
-  pub done : RaisedBelow 255 (weightAt run (only source weight)) old (at .cell) map
-  pub stands : at .cell < cellsOf run → Stands run source at
+  pub done : RaisedBelow 255 (weightAt run (only source weight)) old (at .cell .0) map
+  pub stands : at .cell .0 < cellsOf run → Stands run source at
 
 module _ {run : Run} {source : Source} {walk : Walk} {old : List ℕ} (begun : Begun run source walk old) (weight : ℕ) where
   -- on the line of a hit no other cell is hit
@@ -64,37 +64,37 @@ module _ {run : Run} {source : Source} {walk : Walk} {old : List ℕ} (begun : B
       go (inr k) = k
 
   -- from a hit to the next there is none
-  between : {at to : Place} → Stands run source at → NextLine run source at to → (z : ℕ) → at .cell < z → z < to .cell → isHit run source z ≡ false
+  between : {at to : Place} → Stands run source at → NextLine run source at to → (z : ℕ) → at .cell .0 < z → z < to .cell .0 → isHit run source z ≡ false
   between {at} {to} here next z low high =
       ⊎-elim
       (λ further. next .none z further high)
-      (λ same. alone (at .cell) z (here .hit) low (same .0))
-      (cell-order (begun .valid) (at .cell) z .0 low)
+      (λ same. alone (at .cell .0) z (here .hit) low (same .0))
+      (cell-order (begun .valid) (at .cell .0) z .0 low)
 
   -- the step from a hit to the next
-  on : {map : List ℕ} {at to : Place} → Walked run source weight old map at → at .cell < length map → Walks walk at to → NextLine run source at to
+  on : {map : List ℕ} {at to : Place} → Walked run source weight old map at → at .cell .0 < length map → Walks walk at to → NextLine run source at to
   on so-far inside walks =
       let l = so-far .done .as-long in
       let w = begun .whole in
       walks run source (begun .valid) (begun .source-valid) (begun .leads) (so-far .stands (omega arith))
 
-  pub walk-rises : {map : List ℕ} {at to : Place} → Walked run source weight old map at → at .cell < length map → Walks walk at to → at .cell < to .cell
+  pub walk-rises : {map : List ℕ} {at to : Place} → Walked run source weight old map at → at .cell .0 < length map → Walks walk at to → at .cell .0 < to .cell .0
   walk-rises so-far inside walks = on so-far inside walks .rises
 
   -- a hit is added, and the walk goes on
-  pub walk-on : {map : List ℕ} {at to : Place} {cell v : ℕ} → Walked run source weight old map at → cell ≡ at .cell → cell < length map → v ≡ capped 255 (getD map cell 0 + weight) → Walks walk at to → Walked run source weight old (set map cell v) to
+  pub walk-on : {map : List ℕ} {at to : Place} {cell v : ℕ} → Walked run source weight old map at → cell ≡ at .cell .0 → cell < length map → v ≡ capped 255 (getD map cell 0 + weight) → Walks walk at to → Walked run source weight old (set map cell v) to
   walk-on {map} {at} {to} {cell} {v} so-far same inside e walks =
       let l = so-far .done .as-long in
       let w = begun .whole in
       let here = so-far .stands (omega arith) in
       let next = on so-far (omega arith) walks in
-      let put = store (so-far .done) (omega arith) ((rw same at e) ∙ ap (λ n. capped 255 (getD map (at .cell) 0 + n)) (sym (hit-weighs run source weight (at .cell) (here .hit)))) in
+      let put = store (so-far .done) (omega arith) ((rw same at e) ∙ ap (λ n. capped 255 (getD map (at .cell .0) 0 + n)) (sym (hit-weighs run source weight (at .cell .0) (here .hit)))) in
       record {
         done = rw same (over put (begun .small) (next .rises) (λ z from to. miss-weighs run source weight z (between here next z from to)));
         stands = λ k. next .stands;
       }
 
-  pub walking : {map : List ℕ} {at : Place} → Walked run source weight old map at → at .cell < length map → Walking walk at
+  pub walking : {map : List ℕ} {at : Place} → Walked run source weight old map at → at .cell .0 < length map → Walking walk at
   walking so-far inside =
       let l = so-far .done .as-long in
       let w = begun .whole in
@@ -110,13 +110,13 @@ module _ {run : Run} {source : Source} {walk : Walk} {old : List ℕ} (begun : B
       go : Dec (cell < cellsOf run) → Walked run source weight old old at
       go (yes k) =
           let here = begins .stands (first .hit k) in
-          let line : lineOf run (at .cell) ≡ lineOf run cell = unfold lineOf in ap (λ n. run .first + n) (begins .line) in
-          let same = one-hit-on-line (begun .valid) source (at .cell) cell (begun .wide) (here .hit) (first .hit k) line in
+          let line : lineOf run (at .cell .0) ≡ lineOf run cell = unfold lineOf in ap (λ n. run .first + n) (begins .line) in
+          let same = one-hit-on-line (begun .valid) source (at .cell .0) cell (begun .wide) (here .hit) (first .hit k) line in
           record { done = rw same so; stands = λ h. here }
       go (no k) =
           let w = run .window in
           let end : cell ≡ cellsOf run = let t = first .to in omega arith in
           let whole : cell % w ≡ 0 = rw end (whole-lines run) in
-          let far : cell ≤ at .cell = omega (arith, div-add-mod' cell w, div-add-mod' (at .cell) w, ap (λ n. n * w) (begins .line)) in
+          let far : cell ≤ at .cell .0 = omega (arith, div-add-mod' cell w, div-add-mod' (at .cell .0) w, ap (λ n. n * w) (begins .line)) in
           let l = begun .whole in
           record { done = past so (omega arith) far; stands = λ h. absurd (omega arith) }

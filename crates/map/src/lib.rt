@@ -84,12 +84,12 @@ fn add_hits(run: Run, source: Source, weight: u8, map: &mut [u8])
 {
     let walk = hits::walk::plan(run, source);
     let first = hits::search::find_hit(run, source, RunCell(0));
-    let mut at = hits::walk::place_of(run, source, first.0);
-    let mut cell = at.cell as usize;
+    let mut at = hits::walk::place_of(run, source, first);
+    let mut cell = at.cell.0 as usize;
     while cell < map.len() {
         map[cell] = plus(map[cell], weight);
         at = walk.next(at);
-        cell = at.cell as usize;
+        cell = at.cell.0 as usize;
     }
 }
 

@@ -17,7 +17,7 @@ use Rattle.map.proofs.add_hits.Tie as tie
 
 abbrev Inv-loop : tie.InvT-loop
 Inv-loop weight map₀ walk at₀ cell₀ map at cell =
-    (cell ≡ at .cell) ×
+    (cell ≡ at .cell .0) ×
     (length map ≡ length map₀) ×
     ((run : Run) (source : Source) → Begun run source walk map₀ → Walked run source weight map₀ map₀ at₀ → Walked run source weight map₀ map at)
 

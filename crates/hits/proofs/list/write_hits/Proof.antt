@@ -1,6 +1,6 @@
 -- `hits::list::write_hits` meets its contract.
 -- The outer loop's invariant: at the head of a line the hits written and those from `cell` on are all from the start on
--- (Head); the inner loop's: the same within the line (Inside). Each is told of every run, source and line for which it held
+-- (Head); the inner loop's: the same within the line (Inside). Each is told of every run, source, start and line for which it held
 -- where the loop began, since the code does not hold them any more. Until the room is full, `next` stays past the last cell.
 -- The measure of both: what is left of the run from `cell` on. Assumes nothing.
 use borrow.Author.Needs.{needs, scaled-fits}
@@ -26,18 +26,18 @@ use Rattle.hits.proofs.list.write_hits.Statement.{statement}
 use Rattle.hits.proofs.list.write_hits.Tie as tie
 
 abbrev Inv-loop : tie.InvT-loop
-Inv-loop start room₀ all window period end walk cell₀ offset₀ next₀ n₀ to room cell offset next n =
-    (next ≡ next₀) × ((run : Run) (source : Source) (before : List ℕ) (at : Place) → Fixed run source all period end walk → Inside run source start before room₀ n₀ cell₀ offset₀ at → Inside run source start before room n cell offset at)
+Inv-loop room₀ all window period end walk cell₀ offset₀ next₀ n₀ to room cell offset next n =
+    (next ≡ next₀) × ((run : Run) (source : Source) (start : ℕ) (before : List ℕ) (at : Place) → Fixed run source all period end walk → Inside run source start before room₀ n₀ cell₀ offset₀ at → Inside run source start before room n cell offset at)
 
 abbrev μ-loop : tie.MeasureT-loop
-μ-loop start room₀ all window period end walk cell₀ offset₀ next₀ n₀ to room cell offset next n = all - cell
+μ-loop room₀ all window period end walk cell₀ offset₀ next₀ n₀ to room cell offset next n = all - cell
 
 abbrev Inv-lines : tie.InvT-lines
-Inv-lines start room₀ all window period end walk cell₀ offset₀ at₀ next₀ n₀ room cell offset at next n =
-    (next ≡ next₀) × ((run : Run) (source : Source) → Fixed run source all period end walk → Head run source start room₀ room₀ n₀ cell₀ offset₀ at₀ → Head run source start room₀ room n cell offset at)
+Inv-lines room₀ all window period end walk cell₀ offset₀ at₀ next₀ n₀ room cell offset at next n =
+    (next ≡ next₀) × ((run : Run) (source : Source) (start : ℕ) → Fixed run source all period end walk → Head run source start room₀ room₀ n₀ cell₀ offset₀ at₀ → Head run source start room₀ room n cell offset at)
 
 abbrev μ-lines : tie.MeasureT-lines
-μ-lines start room₀ all window period end walk cell₀ offset₀ at₀ next₀ n₀ room cell offset at next n = all - cell
+μ-lines room₀ all window period end walk cell₀ offset₀ at₀ next₀ n₀ room cell offset at next n = all - cell
 
 -- ---- what is known at the loops
 
@@ -59,7 +59,7 @@ fixed c =
       leads = c .before .before .before .plan .ensures;
     }
 
-begun : (c : tie.After-place-of Inv-loop μ-loop Inv-lines μ-lines) → let a = c .before .before .before .before .before .before .before .args in Head (a .run) (a .source) (a .start) (a .room .now) (a .room .now) 0 (c .before .before .find-hit .result .0) (ofZ w64 (c .before .offset-at2 .result)) (c .place-of .result)
+begun : (c : tie.After-place-of Inv-loop μ-loop Inv-lines μ-lines) → let a = c .before .before .before .before .before .before .before .args in Head (a .run) (a .source) (a .start .0) (a .room .now) (a .room .now) 0 (c .before .before .find-hit .result .0) (ofZ w64 (c .before .offset-at2 .result)) (c .place-of .result)
 unfolding offsetOf
 begun c =
     let f = c .before .before in
@@ -78,19 +78,19 @@ begun c =
       };
     }
 
-head : (c : tie.At-lines Inv-loop μ-loop Inv-lines μ-lines) → let a = c .before .before .before .before .before .before .before .before .args in Head (a .run) (a .source) (a .start) (a .room .now) (c .lines .room) (c .lines .n) (c .lines .cell) (c .lines .offset) (c .lines .at)
-head c = let p = c .before in let a = p .before .before .before .before .before .before .before .args in c .lines .inv .1 (a .run) (a .source) (fixed p) (begun p)
+head : (c : tie.At-lines Inv-loop μ-loop Inv-lines μ-lines) → let a = c .before .before .before .before .before .before .before .before .args in Head (a .run) (a .source) (a .start .0) (a .room .now) (c .lines .room) (c .lines .n) (c .lines .cell) (c .lines .offset) (c .lines .at)
+head c = let p = c .before in let a = p .before .before .before .before .before .before .before .args in c .lines .inv .1 (a .run) (a .source) (a .start .0) (fixed p) (begun p)
 
 -- into the line
-entered : (c : tie.In-lines Inv-loop μ-loop Inv-lines μ-lines) → let l = c .before in let a = l .before .before .before .before .before .before .before .before .args in Inside (a .run) (a .source) (a .start) (a .room .now) (l .lines .room) (l .lines .n) (l .lines .cell) (l .lines .offset) (l .lines .at)
+entered : (c : tie.In-lines Inv-loop μ-loop Inv-lines μ-lines) → let l = c .before in let a = l .before .before .before .before .before .before .before .before .args in Inside (a .run) (a .source) (a .start .0) (a .room .now) (l .lines .room) (l .lines .n) (l .lines .cell) (l .lines .offset) (l .lines .at)
 entered c = enter (fixed (c .before .before)) (c .lines-test .taken) (head (c .before))
 
-inside : (c : tie.At-loop Inv-loop μ-loop Inv-lines μ-lines) → let l = c .before .before .before in let a = l .before .before .before .before .before .before .before .before .args in Inside (a .run) (a .source) (a .start) (a .room .now) (c .loop .room) (c .loop .n) (c .loop .cell) (c .loop .offset) (l .lines .at)
+inside : (c : tie.At-loop Inv-loop μ-loop Inv-lines μ-lines) → let l = c .before .before .before in let a = l .before .before .before .before .before .before .before .before .args in Inside (a .run) (a .source) (a .start .0) (a .room .now) (c .loop .room) (c .loop .n) (c .loop .cell) (c .loop .offset) (l .lines .at)
 inside c =
     let l = c .before .before .before in
     let p = l .before in
     let a = p .before .before .before .before .before .before .before .args in
-    c .loop .inv .1 (a .run) (a .source) (a .room .now) (l .lines .at) (fixed p) (entered (c .before .before))
+    c .loop .inv .1 (a .run) (a .source) (a .start .0) (a .room .now) (l .lines .at) (fixed p) (entered (c .before .before))
 
 -- there is room at n, and little of it
 free : (c : tie.Else1 Inv-loop μ-loop Inv-lines μ-lines) → (c .before .before .loop .n < length (c .before .before .loop .room)) × (length (c .before .before .loop .room) * 8 < 2 ^ 63)
@@ -100,7 +100,7 @@ free c =
     (omega (arith, k .count, c .if1 .left), rw (k .same) (room-small (l .before .before .before .before .before .before .before .before .before .before .before)))
 
 -- after the loops, whichever way they were left
-ended : (c : tie.Left-lines Inv-loop μ-loop Inv-lines μ-lines) → let a = c .before .before .before .before .before .before .before .before .before .args in Ended (a .run) (a .source) (a .start) (a .room .now) (c .lines-test .room) (c .lines-test .n) (c .lines-test .next)
+ended : (c : tie.Left-lines Inv-loop μ-loop Inv-lines μ-lines) → let a = c .before .before .before .before .before .before .before .before .before .args in Ended (a .run) (a .source) (a .start .0) (a .room .now) (c .lines-test .room) (c .lines-test .n) (c .lines-test .next)
 ended c =
     let l = c .before in
     let f = fixed (l .before) in
@@ -143,13 +143,13 @@ place-of-requires : tie.Need-place-of-requires Inv-loop μ-loop Inv-lines μ-lin
 place-of-requires c κs = let s = c .before .before .before .before .before .before in (s .pre .0, s .pre .1, c .before .find-hit .ensures .to)
 
 lines-holds : tie.Need-lines-holds Inv-loop μ-loop Inv-lines μ-lines
-lines-holds c = (refl, λ run source f h. h)
+lines-holds c = (refl, λ run source start f h. h)
 
 next-requires : tie.Need-next-requires Inv-loop μ-loop Inv-lines μ-lines
 next-requires c κs = walking (fixed (c .before .before)) (entered c)
 
 loop-holds : tie.Need-loop-holds Inv-loop μ-loop Inv-lines μ-lines
-loop-holds c = (refl, λ run source before at f h. h)
+loop-holds c = (refl, λ run source start before at f h. h)
 
 mul-room : tie.Need-mul-room Inv-loop μ-loop Inv-lines μ-lines
 mul-room c = scaled-fits (c .before .before .loop .n) (length (c .before .before .loop .room)) 8 (free c .0) (free c .1)
@@ -190,8 +190,8 @@ loop-less c =
 loop-again : tie.Need-loop-again Inv-loop μ-loop Inv-lines μ-lines
 loop-again c = let l = c .before .before in (
   l .loop .inv .0,
-  λ run source before at f h.
-      let i = l .loop .inv .1 run source before at f h in
+  λ run source start before at f h.
+      let i = l .loop .inv .1 run source start before at f h in
       write f i (within f i (c .before .loop-test .taken)) (free c .0),
 )
 
@@ -213,8 +213,8 @@ lines-again c =
     let t = l .before .before in
     let h = t .before in (
       l .loop .inv .0 ∙ h .lines .inv .0,
-      λ run source f b.
-          let i = l .loop .inv .1 run source _ (h .lines .at) f (enter f (t .lines-test .taken) (h .lines .inv .1 run source f b)) in
+      λ run source start f b.
+          let i = l .loop .inv .1 run source start _ (h .lines .at) f (enter f (t .lines-test .taken) (h .lines .inv .1 run source start f b)) in
           leave f i (beyond f i (e .loop-test .left)) (l .before .next .ensures .1 run source (f .valid) (f .source-valid) (f .leads) (i .stands)),
     )
 

@@ -25,26 +25,26 @@ rem-first c = search needs
 
 offset-at-requires : tie.Need-offset-at-requires
 offset-at-requires c κs =
-    let s = c .before .before in
-    let l = leads-in (s .pre .0) (s .pre .1) (s .args .cell) in
+    let s = c .before .before .before in
+    let l = leads-in (s .pre .0) (s .pre .1) (s .args .cell .0) in
     (omega (arith, s .pre .0 .wide), s .pre .0 .wide)
 
 sub-t6 : tie.Need-sub-t6
-sub-t6 c = let s = c .before .before .before in mod-le (s .args .cell) (s .args .run .window)
+sub-t6 c = let s = c .before .before .before .before .before in mod-le (s .args .cell .0) (s .args .run .window)
 
 add-t8 : tie.Need-add-t8
 add-t8 c =
-    let s = c .before .before .before in
+    let s = c .before .before .before .before .before in
     let few = cells-few (s .pre .0) in
-    let l = leads-in (s .pre .0) (s .pre .1) (s .args .cell) in
+    let l = leads-in (s .pre .0) (s .pre .1) (s .args .cell .0) in
     record { fits = omega (arith, s .pre .2, s .pre .0 .wide) }
 
 returns : tie.Need-returns
 returns c =
-    let s = c .before .before .before in
-    let l = leads-in (s .pre .0) (s .pre .1) (s .args .cell) in
+    let s = c .before .before .before .before .before in
+    let l = leads-in (s .pre .0) (s .pre .1) (s .args .cell .0) in
     let w = s .pre .0 .wide in
-    begins (s .pre .0) (s .pre .1) (s .args .cell) (toZ-ofZ (fits-at (leading (s .pre .0) (s .pre .1) (s .args .cell)) (s .args .run .window / 2) (c .offset-at .ensures) (omega arith) (omega arith)) ∙ c .offset-at .ensures)
+    begins (s .pre .0) (s .pre .1) (s .args .cell .0) (toZ-ofZ (fits-at (leading (s .pre .0) (s .pre .1) (s .args .cell .0)) (s .args .run .window / 2) (c .before .offset-at .ensures) (omega arith) (omega arith)) ∙ c .before .offset-at .ensures)
 
 pub place-of-spec : {M : Type 1} → statement M
 place-of-spec =
