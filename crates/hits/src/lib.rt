@@ -43,7 +43,8 @@ fn judge(run: Run, source: Source, start: RunCell) -> Verdict
     if let Verdict::Refused(number) = scope::judge_source(source) {
         return Verdict::Refused(number);
     }
-    if scope::cells(run) <= start.0 {
+    let all = scope::cells(run);
+    if all <= start.0 {
         return Verdict::Refused(8);
     }
     Verdict::Fine

@@ -148,9 +148,9 @@ fn add_blocks(run: Run, periods: &[u32], weights: &[u32], high: u32, lines: u32,
     let mut first = run.first;
     while first <= run.last {
         let block = block_from(run, first, lines);
-        let start = BlockCell(0).in_run(run, block).0 as usize;
-        let end = BlockCell(scope::cells(block)).in_run(run, block).0 as usize;
-        add_chosen(block, periods, weights, 0, high, &mut map[start..end]);
+        let start = BlockCell(0).in_run(run, block);
+        let end = BlockCell(scope::cells(block)).in_run(run, block);
+        add_chosen(block, periods, weights, 0, high, &mut map[start.0 as usize..end.0 as usize]);
         first = block.last + 1;
     }
 }
@@ -200,7 +200,8 @@ pub fn add_to_map(run: Run, periods: &[u32], weights: &[u32], map: &mut [u8]) ->
     if let Verdict::Refused(number) = sources::judge_entries(periods, weights) {
         return Added::Refused(number);
     }
-    if map.len() as u64 != scope::cells(run) {
+    let cells = scope::cells(run);
+    if map.len() as u64 != cells {
         return Added::Refused(9);
     }
     add_all(run, periods, weights, map);

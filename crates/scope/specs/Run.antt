@@ -8,6 +8,8 @@ use lib.Signed.{_≤ℤ_, _<ℤ_}
 use lib.ListN.{getD}
 use Rattle.scope.specs.declared.Run.{Run}
 use Rattle.scope.specs.declared.Source.{Source}
+use Rattle.scope.specs.declared.RunCell.{RunCell}
+use Rattle.scope.specs.declared.BlockCell.{BlockCell}
 
 -- The table of ranges: "window I: even, 2 to 4,096; interval T: 1 to 4,294,967,295; lines: first ≥ 1, last ≥ first, last ≤ 16,777,216".
 pub record Valid (run : Run) : Type 0 where
@@ -70,3 +72,11 @@ pub record IsBlock (run block : Run) : Type 0 where
 -- "(block's first line - run's first line)·I": what turns a block's cell number into the run's.
 unfoldable pub shiftOf : Run → Run → ℕ
 shiftOf run block = (block .first - run .first) * run .window
+
+-- "one becomes the other only by adding .. (block's first line - run's first line)·I": a block's cell as the run's.
+abbrev pub toRun : Run → Run → BlockCell → RunCell
+toRun run block cell = record { 0 = cell .0 + shiftOf run block }
+
+-- ".. or taking away": the run's cell as the block's.
+abbrev pub toBlock : Run → Run → RunCell → BlockCell
+toBlock run block cell = record { 0 = cell .0 - shiftOf run block }

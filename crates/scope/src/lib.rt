@@ -1,8 +1,8 @@
 // Runs, cells, sources and their limits: document 01's words as types, and the tests that every call begins with.
 // Every function is proved. No function here is a public operation: each is an inner step of the crates above.
 ghost use mathlib.Core.Path.{_≡_};
-ghost use Prim.Native.Nat.{_+_, _-_, _≤_};
-ghost use Rattle.scope.specs.Run.{Valid, IsBlock, cellsOf, shiftOf};
+ghost use Prim.Native.Nat.{_≤_};
+ghost use Rattle.scope.specs.Run.{Valid, IsBlock, cellsOf, shiftOf, toRun, toBlock};
 ghost use Rattle.scope.specs.Refusal.{complaint, windowTests, lineTests, runTests, periodTests, sourceTests};
 ghost use Rattle.scope.specs.Reply.{verdict};
 
@@ -121,7 +121,7 @@ impl BlockCell {
     // Inner step. The run's number of a cell of one of its blocks: the block's shift is added.
     pub fn in_run(self, run: Run, block: Run) -> RunCell
         requires { ⌜ Valid run × IsBlock run block × Valid block × self .0 ≤ cellsOf block ⌝ }
-        ensures { λ r. ⌜ r .0 ≡ self .0 + shiftOf run block ⌝ }
+        ensures { λ r. ⌜ r ≡ toRun run block self ⌝ }
     {
         RunCell(self.0 + block_shift(run, block))
     }
@@ -131,7 +131,7 @@ impl RunCell {
     // Inner step. The number that a cell of the run has in a block that does not start after it: the block's shift is taken away.
     pub fn in_block(self, run: Run, block: Run) -> BlockCell
         requires { ⌜ Valid run × IsBlock run block × Valid block × shiftOf run block ≤ self .0 ⌝ }
-        ensures { λ r. ⌜ r .0 ≡ self .0 - shiftOf run block ⌝ }
+        ensures { λ r. ⌜ r ≡ toBlock run block self ⌝ }
     {
         BlockCell(self.0 - block_shift(run, block))
     }

@@ -9,6 +9,7 @@ use mathlib.Core.List.{List}
 use Prim.Native.Nat.{ℕ, suc, _+_, _-_, _*_, _≤_, _<_}
 use lib.ListN.{length, take, drop}
 use Rattle.scope.specs.declared.Run.{Run}
+use Rattle.scope.specs.declared.RunCell.{RunCell}
 use Rattle.scope.specs.Run.{Valid, Within, linesOf, cellsOf, shiftOf}
 use Rattle.scope.proofs.Numbering.{IsBlock, valid-block, shift-next}
 use Rattle.sources.specs.Entry.{Entry, entriesOf}
@@ -99,8 +100,8 @@ lent c =
       at = b .1;
       some = b .2;
       cells-are = c .before .cells .ensures;
-      start-is = c .before .before .in-run .ensures;
-      end-is = c .in-run2 .ensures;
+      start-is = ap (λ (cell : RunCell). cell .0) (c .before .before .in-run .ensures);
+      end-is = ap (λ (cell : RunCell). cell .0) (c .in-run2 .ensures);
     }
 
 loop-holds : tie.Need-loop-holds Inv-loop μ-loop

@@ -1,6 +1,8 @@
 -- `scope::BlockCell::in_run` meets its contract: a cell number and a shift are far below 2 ^ 64. Assumes nothing.
 use borrow.Author.Needs.{needs}
 use native.Mathlib.Omega.{arith}
+use Prim.Native.Nat.{_+_}
+use mathlib.Core.Path.{ap}
 use Rattle.scope.proofs.Limits.{cells-few}
 use Rattle.scope.proofs.Numbering.{shift-few}
 use Rattle.scope.proofs.BlockCell.in_run.Statement.{statement}
@@ -18,7 +20,7 @@ add-t5 c =
     omega arith
 
 returns : tie.Need-returns
-returns c = search needs
+returns c = ap (λ shift. record { 0 = c .before .before .args .self .0 + shift }) (c .before .block-shift .ensures)
 
 pub in-run-spec : {M : Type 1} → statement M
 in-run-spec = tie.close (tie.spec block-shift-requires add-t5 returns)
