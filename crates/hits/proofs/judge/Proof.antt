@@ -2,6 +2,7 @@
 use borrow.Author.Needs.{needs}
 use borrow.Author.Tests.{le-leb, lt-leb}
 use native.Mathlib.Omega.{arith}
+use Rattle.scope.specs.Run.{cellsOf}
 use Rattle.scope.specs.Refusal.{number, runTests, sourceTests}
 use Rattle.scope.proofs.Judged.{Passes, broken, sound, first, then, both, fine, blamed, refuse-verdict, grant-verdict}
 use Rattle.scope.proofs.Limits.{valid-run}
@@ -51,13 +52,15 @@ returns-3 : tie.Need-returns-3
 unfolding firstHitTests number
 returns-3 c =
     let s = c .before .before .before in
-    refuse-verdict (then (both (run-passes (s .before .before .before)) (source-passes s)) (broken (rw (c .before .before .cells .ensures) at (le-leb _ _ (c .if1 .taken)))))
+    let a = s .before .before .before .before .before .before .args in
+    refuse-verdict (then (both (run-passes (s .before .before .before)) (source-passes s)) (broken (le-leb (cellsOf (a .run)) (a .start .0) (omega (arith, c .before .before .cells .ensures, c .if1 .taken)))))
 
 returns-4 : tie.Need-returns-4
 unfolding firstHitTests
 returns-4 c =
     let s = c .before .before .before in
-    grant-verdict (both (both (run-passes (s .before .before .before)) (source-passes s)) (sound (rw (c .before .before .cells .ensures) at (lt-leb _ _ (c .if1 .left)))))
+    let a = s .before .before .before .before .before .before .args in
+    grant-verdict (both (both (run-passes (s .before .before .before)) (source-passes s)) (sound (lt-leb (cellsOf (a .run)) (a .start .0) (omega (arith, c .before .before .cells .ensures, c .if1 .left)))))
 
 pub judge-spec : {M : Type 1} → statement M
 judge-spec =
