@@ -150,7 +150,14 @@ fn add_blocks(run: Run, periods: &[u32], weights: &[u32], high: u32, lines: u32,
         let block = block_from(run, first, lines);
         let start = BlockCell(0).in_run(run, block);
         let end = BlockCell(scope::cells(block)).in_run(run, block);
-        add_chosen(block, periods, weights, 0, high, &mut map[start.0 as usize..end.0 as usize]);
+        add_chosen(
+            block,
+            periods,
+            weights,
+            0,
+            high,
+            &mut map[start.0 as usize..end.0 as usize],
+        );
         first = block.last + 1;
     }
 }

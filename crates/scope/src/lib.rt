@@ -123,7 +123,8 @@ impl BlockCell {
         requires { ⌜ Valid run × IsBlock run block × Valid block × self .0 ≤ cellsOf block ⌝ }
         ensures { λ r. ⌜ r ≡ toRun run block self ⌝ }
     {
-        RunCell(self.0 + block_shift(run, block))
+        let shift = block_shift(run, block);
+        RunCell(self.0 + shift)
     }
 }
 
@@ -133,6 +134,7 @@ impl RunCell {
         requires { ⌜ Valid run × IsBlock run block × Valid block × shiftOf run block ≤ self .0 ⌝ }
         ensures { λ r. ⌜ r ≡ toBlock run block self ⌝ }
     {
-        BlockCell(self.0 - block_shift(run, block))
+        let shift = block_shift(run, block);
+        BlockCell(self.0 - shift)
     }
 }
