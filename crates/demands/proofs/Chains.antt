@@ -6,7 +6,7 @@ use native.Mathlib.Omega.{arith}
 use mathlib.Core.Path.{_≡_, refl, sym, ap, _∙_}
 use mathlib.Core.Logic.{_⊎_, inl, inr}
 use mathlib.Core.Bool.{true, false}
-use mathlib.Core.List.{List, [], _∷_}
+use mathlib.Core.List.{List, [], _∷_, _++_}
 use mathlib.Core.Option.{Option, some, none}
 use lib.ListN.{length, take, drop, length-take, length-drop, take-append-drop}
 use lib.Seq.{take-at}
@@ -14,6 +14,7 @@ use borrow.Author.Tests.{eqb-false, ne-eqb, lt-leb}
 use Rattle.scope.specs.declared.Run.{Run}
 use Rattle.scope.specs.declared.Source.{Source}
 use Rattle.scope.specs.declared.RunCell.{RunCell}
+use Rattle.scope.specs.declared.BlockCell.{BlockCell}
 use Rattle.scope.specs.Run.{Valid, ValidSource, cellsOf}
 use Rattle.scope.specs.Hit.{isHit, hitsFrom}
 use Rattle.scope.specs.Refusal.{Complaint, complaint}
@@ -25,7 +26,8 @@ use Rattle.hits.specs.declared.Listing.{Listing}
 use Rattle.hits.specs.declared.Listing.the-variants.{Done, More, Refused}
 use Rattle.hits.specs.Promise.{firstHitTests, listingTests, first, Listed, saysListing, listed, written, ListingPromise}
 use Rattle.demands.specs.FirstHit.{IsFirstHit}
-use Rattle.demands.specs.Listing.{Chain, done, more, listOf, callsOf, Lends}
+use Rattle.demands.specs.Listing.{Chain, done, more, blockCells, listOf, callsOf, Mores, none-yet, one-more, Lends}
+use Rattle.demands.proofs.CellLists.{block-append}
 use Rattle.demands.proofs.FirstHits.{first-is}
 use Rattle.demands.proofs.SomeReply.{listing-exists}
 
@@ -140,18 +142,25 @@ pub goes-inside : {block : Run} {source : Source} {start next : RunCell} {room a
 goes-inside h = left h .inside
 
 -- The list of a chain is the list of the hits from its start on.
-pub chain-lists : {block : Run} {source : Source} {start : RunCell} (chain : Chain block source start) → listOf chain ≡ hitsFrom block source (start .0)
+pub chain-lists : {block : Run} {source : Source} {start : RunCell} (chain : Chain block source start) → listOf chain ≡ blockCells (hitsFrom block source (start .0))
 chain-lists {block} {source} {start} (done room after n promise) =
     let t = told block source start room after (Done n) n none promise refl in
-    t .wrote ∙ all-taken (length room) (hitsFrom block source (start .0)) (t .goes)
+    ap blockCells (t .wrote ∙ all-taken (length room) (hitsFrom block source (start .0)) (t .goes))
 chain-lists {block} {source} {start} (more room after n next promise rest) =
     let l = left promise in
-    rw (l .wrote, chain-lists rest, ← l .rest) (take-append-drop (length room) (hitsFrom block source (start .0)))
+    let hits = hitsFrom block source (start .0) in
+    let both : take n after ++ hitsFrom block source (next .0) ≡ hits = rw (l .wrote, ← l .rest) (take-append-drop (length room) hits) in
+    ap (λ (cells : List BlockCell). blockCells (take n after) ++ cells) (chain-lists rest) ∙ sym (block-append (take n after) (hitsFrom block source (next .0))) ∙ ap blockCells both
 
 -- A chain has no more calls than there are hits, or one if there are none.
 pub few-calls : {block : Run} {source : Source} {start : RunCell} (chain : Chain block source start) → callsOf chain ≤ max 1 (length (hitsFrom block source (start .0)))
 few-calls (done room after n promise) = omega arith
 few-calls (more room after n next promise rest) = let l = left promise in omega (arith, few-calls rest)
+
+-- Calls that all say "more" are fewer than the hits.
+pub few-mores : {block : Run} {source : Source} {start : RunCell} {calls : ℕ} → Mores block source start calls → calls < max 1 (length (hitsFrom block source (start .0)))
+few-mores none-yet = omega arith
+few-mores (one-more room after n next promise rest) = let l = left promise in omega (arith, few-mores rest)
 
 -- ---- such a chain exists
 

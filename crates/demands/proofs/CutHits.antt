@@ -13,10 +13,14 @@ use Rattle.scope.proofs.Hits.{hits-end, hits-split, hits-block}
 use Rattle.demands.specs.Cut.{CutFrom, Cut}
 use Rattle.demands.proofs.Cuts.{cut-within, piece-is, before, before-within, before-first, before-end, before-piece, before-next}
 
+-- numbers of a block, moved into the run's
+abbrev pub moved : Run → Run → List ℕ → List ℕ
+moved run block numbers = map (λ x. x + shiftOf run block) numbers
+
 -- the hits of the blocks, moved and joined
 abbrev pub blockHits : Run → Source → List Run → List ℕ
 blockHits run source [] = []
-blockHits run source (block ∷ blocks) = map (λ x. x + shiftOf run block) (hitsFrom block source 0) ++ blockHits run source blocks
+blockHits run source (block ∷ blocks) = moved run block (hitsFrom block source 0) ++ blockHits run source blocks
 
 -- the hits among m cells, and those after them
 hits-join : (run : Run) (source : Source) (x m : ℕ) → x + m ≤ cellsOf run → hitsAmong run source x m ++ hitsFrom run source (x + m) ≡ hitsFrom run source x
@@ -27,7 +31,7 @@ hits-join run source x m h =
     rw all (sym (hits-split run source x m n))
 
 -- a block's hits are those of its lines
-block-hits : {run block : Run} → Valid run → IsBlock run block → (source : Source) → map (λ x. x + shiftOf run block) (hitsFrom block source 0) ≡ hitsAmong run source (shiftOf run block) (cellsOf block)
+block-hits : {run block : Run} → Valid run → IsBlock run block → (source : Source) → moved run block (hitsFrom block source 0) ≡ hitsAmong run source (shiftOf run block) (cellsOf block)
 block-hits {run} {block} v i source = rw (zero-add (shiftOf run block), sub-zero (cellsOf block)) at (hits-block v i source 0)
 
 -- the blocks from a line on have the run's hits from that line on

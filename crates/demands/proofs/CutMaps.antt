@@ -10,16 +10,16 @@ use Rattle.scope.specs.Run.{Valid, linesOf, cellsOf}
 use Rattle.scope.proofs.Numbering.{valid-block}
 use Rattle.demands.specs.Cut.{CutFrom, Cut}
 use Rattle.demands.specs.Adding.{together, Maps}
-use Rattle.demands.proofs.Cuts.{piece-is, before, before-first, before-piece, before-next}
+use Rattle.demands.proofs.Cuts.{piece-is, ValidBlock, before, before-first, before-piece, before-next}
 
 module _ (run : Run) where
-  block-at : Valid run → (line : ℕ) (blocks : List Run) → run .first ≤ line → CutFrom run line blocks → (k : ℕ) → k < length blocks → Valid (getD blocks k run)
+  block-at : Valid run → (line : ℕ) (blocks : List Run) → run .first ≤ line → CutFrom run line blocks → (k : ℕ) → k < length blocks → ValidBlock run (getD blocks k run)
   block-at v line [] low c k h = absurd (omega arith)
-  block-at v line (block ∷ blocks) low c zero h = valid-block v (piece-is run blocks low c) (c .0 .ordered)
+  block-at v line (block ∷ blocks) low c zero h = let i = piece-is run blocks low c in record { valid = valid-block v i (c .0 .ordered); is = i }
   block-at v line (block ∷ blocks) low c (suc k) h = let p = c .0 in block-at v (suc (block .last)) blocks (omega arith) (c .1) k (omega arith)
 
-  -- the block at each place is a valid run
-  pub valid-at : Valid run → (blocks : List Run) → Cut run blocks → (k : ℕ) → k < length blocks → Valid (getD blocks k run)
+  -- the block at each place is a valid run and a block of the run
+  pub valid-at : Valid run → (blocks : List Run) → Cut run blocks → (k : ℕ) → k < length blocks → ValidBlock run (getD blocks k run)
   valid-at v blocks c = block-at v (run .first) blocks (omega arith) c
 
   -- the maps are as many as the blocks

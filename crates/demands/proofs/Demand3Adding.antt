@@ -21,7 +21,7 @@ use Rattle.scope.proofs.Limits.{valid-run-passes}
 use Rattle.scope.proofs.Hits.{hit-hits}
 use Rattle.map.specs.declared.Added.{Added}
 use Rattle.map.specs.declared.Added.the-variants.{Done}
-use Rattle.map.specs.Sum.{raised}
+use Rattle.map.specs.Sum.{capped, raised}
 use Rattle.map.specs.Map.{mapTests, weightAt, added, MapPromise}
 use Rattle.map.proofs.Raised.{raised-append, raised-move}
 use Rattle.sources.specs.Lists.{periodsOf, weightsOf, AllValid}
@@ -207,22 +207,28 @@ joins run v sources first (block ∷ blocks) (map ∷ maps) (a ∷ after) low c 
 
 -- "Add the sources to the blocks in any order, each source once to each block": no call is refused, and "every cell then holds
 -- what it held before plus the weights of all its hits, or 255 if that is more".
-pub blocks-add : {run : Run} {blocks : List Run} {sources : List Entry} {maps : List (List ℕ)} {calls : List Call} → History run blocks sources maps calls → Adds run sources maps calls
+pub blocks-add : {run : Run} {blocks : List Run} {sources : List Entry} {maps : List (List ℕ)} {calls : List Call} → History run blocks sources maps calls → Adds run blocks sources maps calls
 unfolding Left added
 blocks-add {run} {blocks} {sources} {maps} {calls} h =
-    let valid = valid-at run (h .valid) blocks (h .cut) in
+    let at = valid-at run (h .valid) blocks (h .cut) in
+    let valid : (k : ℕ) → k < length blocks → Valid (getD blocks k run) = λ k i. at k i .valid in
     let state : State run blocks valid maps = record { as-many = maps-length run blocks maps (h .sized); sized = map-at run blocks maps (h .sized); bytes = h .bytes } in
     let out = outcome run blocks valid calls maps state (h .keep) (λ k i. valid-perm (h .once k i) (h .within)) in
+    let each : (k : ℕ) → k < length blocks → getD (leave maps calls) k [] ≡ added 255 (getD blocks k run) sources (getD maps k []) =
+    λ k i. out .ends k i ∙ added-same 255 (getD blocks k run) (addedTo k calls) sources (getD maps k []) (λ x j. weight-perm (getD blocks k run) x (h .once k i)) in
     let whole : together (leave maps calls) ≡ added 255 run sources (together maps) =
     rw (before-first run) at
-    (joins run (h .valid) sources (run .first) blocks maps (leave maps calls) (omega arith) (h .cut) (h .sized) (out .as-many ∙ state .as-many)
-    (λ k i. out .ends k i ∙ added-same 255 (getD blocks k run) (addedTo k calls) sources (getD maps k []) (λ x j. weight-perm (getD blocks k run) x (h .once k i)))) in
+    (joins run (h .valid) sources (run .first) blocks maps (leave maps calls) (omega arith) (h .cut) (h .sized) (out .as-many ∙ state .as-many) each) in
     let cells = cut-cells run (h .valid) blocks maps (h .cut) (h .sized) in
     record {
       none-refused = out .done;
       cells = cells;
       whole = whole;
-      every-cell = λ y i. ap (λ (l : List ℕ). getD l y 0) whole ∙ added-getD 255 run sources (together maps) y (omega arith);
+      every-cell = λ y i. ap (λ (l : List ℕ). getD l (y .0) 0) whole ∙ added-getD 255 run sources (together maps) (y .0) (omega arith);
+      every-block = λ k i x j.
+          ap (λ (l : List ℕ). getD l (x .0) 0) (each k i)
+          ∙ added-getD 255 (getD blocks k run) sources (getD maps k []) (x .0) (omega (arith, state .sized k i))
+          ∙ ap (λ n. capped 255 (getD (getD maps k []) (x .0) 0 + n)) (weight-shift (h .valid) (at k i .is) sources (x .0));
     }
 
 -- "The certificate then compares readings that don't belong together": not so. Two cuts and two histories of the same sources,
@@ -277,7 +283,7 @@ keep-each run blocks valid sources w (suc n) maps h state =
 -- the sources spread over more calls, add up too is what `blocks-add` says of every history.
 pub history-exists : {run : Run} {blocks : List Run} {sources : List Entry} {maps : List (List ℕ)} → Valid run → Cut run blocks → AllValid 255 sources → Maps blocks maps → ((k : ℕ) → Within 255 (getD maps k [])) → (calls : List Call) × History run blocks sources maps calls
 history-exists {run} {blocks} {sources} {maps} v cut w sized bytes =
-    let valid = valid-at run v blocks cut in (
+    let valid : (k : ℕ) → k < length blocks → Valid (getD blocks k run) = λ k i. valid-at run v blocks cut k i .valid in (
       calls-on run blocks sources maps (length blocks),
       record {
         valid = v;

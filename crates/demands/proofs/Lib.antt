@@ -9,6 +9,7 @@ pub mod Demand2Vectors
 pub mod FirstHits
 pub mod Demand2Hits
 pub mod Demand2File
+pub mod CellLists
 pub mod Chains
 pub mod Cuts
 pub mod CutHits

@@ -7,7 +7,9 @@ use mathlib.Core.List.{List, [], _∷_, _++_, List·Permᴰ}
 use lib.Dec.{eqb}
 use lib.ListN.{length, getD, set}
 use Rattle.scope.specs.declared.Run.{Run}
-use Rattle.scope.specs.Run.{Valid, Within, cellsOf}
+use Rattle.scope.specs.declared.RunCell.{RunCell}
+use Rattle.scope.specs.declared.BlockCell.{BlockCell}
+use Rattle.scope.specs.Run.{Valid, Within, cellsOf, toRun}
 use Rattle.sources.specs.Entry.{Entry}
 use Rattle.map.specs.declared.Added.{Added}
 use Rattle.map.specs.declared.Added.the-variants.{Done}
@@ -69,8 +71,10 @@ pub record History (run : Run) (blocks : List Run) (sources : List Entry) (maps 
   pub once : (k : ℕ) → k < length blocks → List·Permᴰ (addedTo k calls) sources
 
 -- "every cell then holds what it held before plus the weights of all its hits, or 255 if that is more"; and no call is refused.
-pub record Adds (run : Run) (sources : List Entry) (maps : List (List ℕ)) (calls : List Call) : Type 0 where
+-- Told of all maps joined, of each cell of the run, and block by block: cell x of block k has the hits of the run's cell that it is.
+pub record Adds (run : Run) (blocks : List Run) (sources : List Entry) (maps : List (List ℕ)) (calls : List Call) : Type 0 where
   pub none-refused : NoneRefused calls
   pub cells : length (together maps) ≡ cellsOf run
   pub whole : together (leave maps calls) ≡ added 255 run sources (together maps)
-  pub every-cell : (y : ℕ) → y < cellsOf run → getD (together (leave maps calls)) y 0 ≡ capped 255 (getD (together maps) y 0 + weightAt run sources y)
+  pub every-cell : (y : RunCell) → y .0 < cellsOf run → getD (together (leave maps calls)) (y .0) 0 ≡ capped 255 (getD (together maps) (y .0) 0 + weightAt run sources (y .0))
+  pub every-block : (k : ℕ) → k < length blocks → (x : BlockCell) → x .0 < cellsOf (getD blocks k run) → getD (getD (leave maps calls) k []) (x .0) 0 ≡ capped 255 (getD (getD maps k []) (x .0) 0 + weightAt run sources (toRun run (getD blocks k run) x .0))

@@ -1,5 +1,5 @@
 -- Demand 3: the listing of a source in each block of a cut, call after call, and the lists joined.
-use Prim.Native.Nat.{ℕ, suc, _+_, _<_}
+use Prim.Native.Nat.{ℕ, zero, suc, _<_}
 use mathlib.Core.Path.{_≡_}
 use mathlib.Core.Logic.{_↔_}
 use mathlib.Core.List.{List, [], _∷_, _++_, map, List·Memᴰ}
@@ -7,7 +7,8 @@ use lib.ListN.{take}
 use Rattle.scope.specs.declared.Run.{Run}
 use Rattle.scope.specs.declared.Source.{Source}
 use Rattle.scope.specs.declared.RunCell.{RunCell}
-use Rattle.scope.specs.Run.{cellsOf, Before, shiftOf}
+use Rattle.scope.specs.declared.BlockCell.{BlockCell}
+use Rattle.scope.specs.Run.{cellsOf, Before, toRun}
 use Rattle.hits.specs.declared.Listing.{Listing}
 use Rattle.hits.specs.declared.Listing.the-variants.{Done, More, Refused}
 use Rattle.hits.specs.Promise.{ListingPromise}
@@ -26,15 +27,28 @@ Answered block (Done n) = Unit {0}
 Answered block (More n next) = next .0 < cellsOf block
 Answered block (Refused n) = ⊥
 
--- The chain's list: what the calls wrote, as many numbers as each reply counts, joined.
-abbrev pub listOf : {block : Run} {source : Source} {start : RunCell} → Chain block source start → List ℕ
-listOf (done room after n promise) = take n after
-listOf (more room after n next promise rest) = take n after ++ listOf rest
+-- Numbers as cells of a block, and as cells of the run.
+abbrev pub blockCells : List ℕ → List BlockCell
+blockCells numbers = map (λ x. record { 0 = x }) numbers
+
+abbrev pub runCells : List ℕ → List RunCell
+runCells numbers = map (λ x. record { 0 = x }) numbers
+
+-- The chain's list: what the calls on the block wrote, as many cells of it as each reply counts, joined.
+abbrev pub listOf : {block : Run} {source : Source} {start : RunCell} → Chain block source start → List BlockCell
+listOf (done room after n promise) = blockCells (take n after)
+listOf (more room after n next promise rest) = blockCells (take n after) ++ listOf rest
 
 -- How many calls there are.
 abbrev pub callsOf : {block : Run} {source : Source} {start : RunCell} → Chain block source start → ℕ
 callsOf (done room after n promise) = 1
 callsOf (more room after n next promise rest) = suc (callsOf rest)
+
+-- "going on where the listing stopped", wherever that ends: so many calls one after the other from a cell on, each with whatever
+-- room, that all say "more". Whether a later one says "done" is left open.
+pub data Mores (block : Run) (source : Source) : RunCell → ℕ → Type 0 where
+  none-yet : {start : RunCell} → Mores block source start zero
+  one-more : {start : RunCell} {calls : ℕ} (room after : List ℕ) (n : ℕ) (next : RunCell) → ListingPromise block source start room (More n next) after → Mores block source next calls → Mores block source start (suc calls)
 
 -- The rooms are those of a supply, one after the other.
 abbrev pub Lends : {block : Run} {source : Source} {start : RunCell} → (ℕ → List ℕ) → Chain block source start → Type 0
@@ -51,18 +65,18 @@ abbrev pub LendsEach : (Run → ℕ → List ℕ) → (source : Source) (blocks 
 LendsEach rooms source [] lists = Unit {0}
 LendsEach rooms source (block ∷ blocks) lists = Lends (rooms block) (lists .0) × LendsEach rooms source blocks (lists .1)
 
--- "Joined in line order", each list moved from its block's cells into the run's.
-abbrev pub joined : (run : Run) (source : Source) (blocks : List Run) → Listings source blocks → List ℕ
+-- "Joined in line order", each list turned from its block's cells into the run's.
+abbrev pub joined : (run : Run) (source : Source) (blocks : List Run) → Listings source blocks → List RunCell
 joined run source [] lists = []
-joined run source (block ∷ blocks) lists = map (λ x. x + shiftOf run block) (listOf (lists .0)) ++ joined run source blocks (lists .1)
+joined run source (block ∷ blocks) lists = map (toRun run block) (listOf (lists .0)) ++ joined run source blocks (lists .1)
 
 -- "by line and then by offset": each cell of the list comes before the next one.
-abbrev pub InOrder : Run → List ℕ → Type 0
+abbrev pub InOrder : Run → List RunCell → Type 0
 InOrder run [] = Unit {0}
 InOrder run (x ∷ []) = Unit {0}
-InOrder run (x ∷ y ∷ cells) = Before run x y × InOrder run (y ∷ cells)
+InOrder run (x ∷ y ∷ cells) = Before run (x .0) (y .0) × InOrder run (y ∷ cells)
 
 -- "every hit of that source in the run once, none besides, by line and then by offset".
-pub record EveryHitOnce (run : Run) (source : Source) (cells : List ℕ) : Type 0 where
+pub record EveryHitOnce (run : Run) (source : Source) (cells : List RunCell) : Type 0 where
   pub order : InOrder run cells
-  pub exactly : (y : ℕ) → List·Memᴰ y cells ↔ ((y < cellsOf run) × HitsCell run source y)
+  pub exactly : (y : RunCell) → List·Memᴰ y cells ↔ (y .0 < cellsOf run × HitsCell run source (y .0))
