@@ -73,14 +73,14 @@ fn wide(x: u8) -> u64
 }
 
 // Writes the line of a cell above 0; for a cell of 0 there is none.
-fn write_cell(room: &mut [u8], at: usize, cell: usize, value: u8) -> usize
-    requires { ⌜ at + length (cellReport cell value) ≤ length (now room) ⌝ }
-    ensures { λ r. ⌜ Written (now (room .entry)) at (cellReport cell value) r (now (room .exit)) ⌝ }
+fn write_cell(room: &mut [u8], at: usize, cell: RunCell, value: u8) -> usize
+    requires { ⌜ at + length (cellReport (cell .0) value) ≤ length (now room) ⌝ }
+    ensures { λ r. ⌜ Written (now (room .entry)) at (cellReport (cell .0) value) r (now (room .exit)) ⌝ }
 {
     if value == 0 {
         return at;
     }
-    let numbers = [cell as u64, wide(value)];
+    let numbers = [cell.0, wide(value)];
     write_line(room, at, b"map", &numbers)
 }
 
@@ -92,7 +92,7 @@ fn write_map(room: &mut [u8], at: usize, map: &[u8]) -> usize
     let mut next = at;
     let mut x = 0;
     while x < map.len() {
-        next = write_cell(room, next, x, map[x]);
+        next = write_cell(room, next, RunCell(x as u64), map[x]);
         x += 1;
     }
     next

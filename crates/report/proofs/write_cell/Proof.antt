@@ -15,13 +15,13 @@ use Rattle.report.proofs.write_cell.Tie as tie
 -- the line that is written is the cell's
 printed : (c : tie.After-wide)
     → let a = c .before .before .before .args in
-    line mapWord (a .cell ∷ c .wide .result ∷ []) ≡ cellReport (a .cell) (a .value)
+    line mapWord (a .cell .0 ∷ c .wide .result ∷ []) ≡ cellReport (a .cell .0) (a .value)
 printed c =
     let a = c .before .before .before .args in
-    ap (λ v. line mapWord (a .cell ∷ v ∷ [])) (c .wide .ensures) ∙ sym (cell-line (a .cell) (a .value) (c .before .if1 .left))
+    ap (λ v. line mapWord (a .cell .0 ∷ v ∷ [])) (c .wide .ensures) ∙ sym (cell-line (a .cell .0) (a .value) (c .before .if1 .left))
 
 returns : tie.Need-returns
-returns c = rw (cell-none (c .before .before .args .cell) (c .before .before .args .value) (c .if1 .taken)) (written-none _ _)
+returns c = rw (cell-none (c .before .before .args .cell .0) (c .before .before .args .value) (c .if1 .taken)) (written-none _ _)
 
 wide-requires : tie.Need-wide-requires
 wide-requires c κs = search needs
