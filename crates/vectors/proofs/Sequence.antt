@@ -13,7 +13,7 @@ use Rattle.lattice.proofs.Multiples.{rest}
 use Rattle.lattice.proofs.Stage.{Side, left, right, other, Stage, bounds, slide-bound}
 use Rattle.lattice.proofs.Stage as Stage
 use Rattle.vectors.specs.declared.Vector.{Vector}
-use Rattle.vectors.specs.Sequence.{plusTimes, nextOf, toward, Moves, Successive, Reaches, Ready, Open}
+use Rattle.vectors.specs.Sequence.{plusTimes, nextOf, alongside, toward, Moves, Successive, Reaches, Ready, Open}
 
 abs-toward : (s : Side) (n : ℕ) → natAbs (toward s n) ≡ n
 abs-toward left zero = refl
@@ -53,6 +53,17 @@ some h l = rw (size-of (h .last)) at l
 quotient : {p r : ℕ} {u v : Vector} (h : Successive p r u v) → h .n ≡ natAbs (u .offset) / natAbs (v .offset) * h .m + h .n % h .m
 quotient h = rw (size-of (h .before), size-of (h .last)) (sym (div-add-mod' (h .n) (h .m)))
 
+-- what is left of u's offset lies to u's side
+along-toward : (s : Side) (n k : ℕ) → 0 < n → alongside (toward s n) k ≡ toward s k
+along-toward left zero k h = absurd (omega arith)
+along-toward left (suc n) k h = refl
+along-toward right n k h = refl
+
+pub same-side : {p r : ℕ} {u v : Vector} (h : Successive p r u v) (q k : ℕ) → natAbs (u .offset) ≡ q * natAbs (v .offset) + k → alongside (u .offset) k ≡ plusTimes u q v .offset
+same-side {u = u} {v} h q k e =
+    let falls = h .stage .falls in
+    ap (λ z. alongside z k) (h .before .offset) ∙ along-toward (other (h .side)) (h .n) k (omega arith) ∙ sym (moved h q k (rw (size-of (h .before), size-of (h .last)) at e) .offset)
+
 -- v and the next vector are successive again
 pub onward : {p r : ℕ} {u v : Vector} → Successive p r u v → 0 < natAbs (v .offset) → Successive p r v (nextOf u v)
 onward {p} {r} {u} {v} h l =
@@ -91,20 +102,14 @@ held-last h small =
 pub held-before : {p r : ℕ} {u v : Vector} → Successive p r u v → p < 2 ^ 31 → SFits w64 (u .offset)
 held-before h small = held (h .before) (bounds (h .stage) .distance) small
 
-times-toward : (s : Side) (q m : ℕ) → pos q *ℤ toward s m ≡ toward s (q * m)
-times-toward left q m = leftward-times q m
-  where
-    leftward-times : (q m : ℕ) → pos q *ℤ negℤ (pos m) ≡ negℤ (pos (q * m))
-    leftward-times q m = simp differences (omega arith)
-times-toward right q m = refl
-
 pub record Fitting (u : Vector) (q : ℕ) (v : Vector) : Type 0 where
   pub before : SFits w64 (u .offset)
   pub last : SFits w64 (v .offset)
   pub next : SFits w64 (plusTimes u q v .offset)
   pub divisor : 0 < natAbs (v .offset)
   pub times : q < 2 ^ 31
-  pub product : SFits w64 (pos q *ℤ v .offset)
+  pub reach : q * natAbs (v .offset) ≤ natAbs (u .offset)
+  pub size : natAbs (u .offset) < 2 ^ 31
   pub lines : u .line + q * v .line < 2 ^ 31
 
 many : {q m : ℕ} → 0 < m → q ≤ q * m
@@ -126,7 +131,8 @@ fitting {u} {v} {q} h =
       next = held (moved (h .at) q (h .at .n - q * h .at .m) e) (omega arith) small;
       divisor = h .some;
       times = omega arith;
-      product = simp (h .at .last .offset, times-toward) (fits-toward (h .at .side) (q * h .at .m) (omega arith));
+      reach = h .reach;
+      size = rw (size-of (h .at .before)) (omega arith);
       lines = rw (h .at .before .line, h .at .last .line) (omega arith);
     }
 

@@ -1,7 +1,7 @@
 -- Document 01, "The sequence of 002", two successive vectors u and v at a time: what the inner steps of `find_basis` go by.
 use mathlib.Core.Path.{_≡_}
 use Prim.Native.Nat.{ℕ, _+_, _-_, _*_, _/_, _≤_, _<_, _^_}
-use lib.IntN.{ℤ, pos, negℤ, natAbs, _+ℤ_, _*ℤ_}
+use lib.IntN.{ℤ, pos, negsuc, negℤ, natAbs, _+ℤ_, _*ℤ_}
 use Rattle.lattice.proofs.Stage.{Side, left, right, other, Stage}
 use Rattle.vectors.specs.declared.Vector.{Vector}
 use Rattle.vectors.specs.declared.Turn.{Turn}
@@ -25,6 +25,11 @@ nextOf u v = plusTimes u (natAbs (u .offset) / natAbs (v .offset)) v
 -- 002's proof: u plus a times v, a "the smallest integer with" |u's offset| - a·|v's offset| below the window.
 abbrev pub partnerOf : Vector → Vector → ℕ → Vector
 partnerOf u v window = plusTimes u ((natAbs (u .offset) - window) / natAbs (v .offset) + 1) v
+
+-- n ticks to the side to which the offset leads.
+abbrev pub alongside : ℤ → ℕ → ℤ
+alongside (pos _) n = pos n
+alongside (negsuc _) n = negℤ (pos n)
 
 -- n ticks to the left or to the right, as an offset.
 abbrev pub toward : Side → ℕ → ℤ

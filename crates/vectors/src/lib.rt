@@ -5,11 +5,9 @@ use scope::judge_period;
 use scope::judge_window;
 use signed::size;
 ghost use mathlib.Core.Path.{_≡_};
-ghost use lib.IntN.{_+ℤ_, _*ℤ_};
-ghost use mir.Syntax.{w64};
-ghost use mir.Val.{SFits};
+ghost use Prim.Native.Nat.{_<_, _^_};
 ghost use Rattle.vectors.specs.Promise.{VectorsPromise, Spans, Askable};
-ghost use Rattle.vectors.specs.Sequence.{vector, turn, Reaches, plusTimes, nextOf, partnerOf, Ready, Divided, Open};
+ghost use Rattle.vectors.specs.Sequence.{vector, turn, alongside, Reaches, plusTimes, nextOf, partnerOf, Ready, Divided, Open};
 
 // A vector of the lattice: so many ticks of offset, to the right or (below 0) to the left, and so many lines on.
 pub struct Vector {
@@ -41,59 +39,69 @@ pub struct Turn {
     pub last: Vector,
 }
 
-// x + times·y, where that and the product are held by 64 bits.
-fn add_times(x: i64, times: i64, y: i64) -> i64
-    requires { ⌜ SFits w64 (times *ℤ y) × SFits w64 (x +ℤ times *ℤ y) ⌝ }
-    ensures { λ r. ⌜ r ≡ x +ℤ times *ℤ y ⌝ }
+// n ticks to the side to which x leads.
+fn to_side_of(x: i64, n: u64) -> i64
+    requires { ⌜ n < 2 ^ 63 ⌝ }
+    ensures { λ r. ⌜ r ≡ alongside x n ⌝ }
 {
-    x + times * y
+    if x < 0 { -(n as i64) } else { n as i64 }
 }
 
-// `before` plus `last` so many times, where so often `last` leads no further than `before`, to the other side.
+// `before` plus `last` so many times, where so often `last` leads no further than `before`, to the other side:
+// the offset is what is left of that of `before`, to its side.
 fn plus_times(before: Vector, times: u64, last: Vector) -> Vector
     requires { ⌜ Reaches before times last ⌝ }
     ensures { λ v. ⌜ v ≡ plusTimes before times last ⌝ }
 {
+    let rest = size(before.offset) - times * size(last.offset);
     Vector {
-        offset: add_times(before.offset, times as i64, last.offset),
+        offset: to_side_of(before.offset, rest),
         line: before.line + times * last.line,
     }
 }
 
-// The vector after `last` in the division sequence:
+// Inner step. The vector after `last` in the division sequence:
 // `before` plus `last` as often as the size of its offset goes into that of `before`.
-fn next(before: Vector, last: Vector) -> Vector
+pub fn next(before: Vector, last: Vector) -> Vector
     requires { ⌜ Reaches before 0 last ⌝ }
     ensures { λ v. ⌜ v ≡ nextOf before last ⌝ }
 {
     plus_times(before, size(before.offset) / size(last.offset), last)
 }
 
-// The division sequence carried on in place, from two successive vectors (i, j) and (k, l) to the first that stays within the
-// window and the one before it. They are lent number by number: so the recursion is compiled into a loop over registers.
-// The size of k falls at each call, so that the recursion ends, at the latest with k = 0.
-fn divide(i: &mut i64, j: &mut u64, k: &mut i64, l: &mut u64, window: u64)
-    requires { ⌜ Ready window (vector (now i) (now j)) (vector (now k) (now l)) ⌝ }
-    ensures { λ _. ⌜ Divided window (vector (now (i .entry)) (now (j .entry))) (vector (now (k .entry)) (now (l .entry))) (turn (vector (now (i .exit)) (now (j .exit))) (vector (now (k .exit)) (now (l .exit)))) ⌝ }
+// The division sequence, from two successive vectors to the first that stays within the window, which is stored as (k, l),
+// and the one before it, stored as (i, j). The size of the last offset falls at each call, so that the recursion ends,
+// at the latest with 0. The two vectors are put together anew: so the recursion is compiled into a loop over registers.
+fn divide(
+    before: Vector,
+    last: Vector,
+    window: u64,
+    i: &mut i64,
+    j: &mut u64,
+    k: &mut i64,
+    l: &mut u64,
+)
+    requires { ⌜ Ready window before last ⌝ }
+    ensures { λ _. ⌜ Divided window before last (turn (vector (now (i .exit)) (now (j .exit))) (vector (now (k .exit)) (now (l .exit)))) ⌝ }
 {
-    let offset = *k;
-    let line = *l;
-    if size(offset) < window {
+    let before = Vector {
+        offset: before.offset,
+        line: before.line,
+    };
+    let last = Vector {
+        offset: last.offset,
+        line: last.line,
+    };
+    if size(last.offset) < window {
+        let offset = before.offset; // what is stored as signed has to be a local
+        *i = offset;
+        *j = before.line;
+        let offset = last.offset;
+        *k = offset;
+        *l = last.line;
         return;
     }
-    let after = next(
-        Vector {
-            offset: *i,
-            line: *j,
-        },
-        Vector { offset, line },
-    );
-    *i = offset;
-    *j = line;
-    let offset = after.offset; // what is stored as signed has to be a local
-    *k = offset;
-    *l = after.line;
-    divide(i, j, k, l, window);
+    divide(last, next(before, last), window, i, j, k, l);
 }
 
 // The first vector of the division sequence from `last` on that stays within the window, and the one before it.
@@ -101,11 +109,11 @@ fn stop(before: Vector, last: Vector, window: u64) -> Turn
     requires { ⌜ Ready window before last ⌝ }
     ensures { λ t. ⌜ Divided window before last t ⌝ }
 {
-    let mut i = before.offset;
-    let mut j = before.line;
-    let mut k = last.offset;
-    let mut l = last.line;
-    divide(&mut i, &mut j, &mut k, &mut l, window);
+    let mut i = 0;
+    let mut j = 0;
+    let mut k = 0;
+    let mut l = 0;
+    divide(before, last, window, &mut i, &mut j, &mut k, &mut l);
     Turn {
         before: Vector { offset: i, line: j },
         last: Vector { offset: k, line: l },

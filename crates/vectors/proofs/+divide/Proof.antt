@@ -20,7 +20,7 @@ use Rattle.vectors.proofs.+divide.{statement}
 use Rattle.vectors.proofs.+divide.Tie.{close}
 
 abbrev μ-divide : Measures 4 divide-kinds.ps ℕ
-μ-divide κs a = natAbs (now (a .1 .1 .0))
+μ-divide κs a = natAbs (a .1 .0 .offset)
 
 abbrev divide-at : ℕ → In 4 divide-kinds.ps
 divide-at t = and 4 divide-kinds.ps (is 4 divide-kinds.ps μ-divide t) divide.Pre
@@ -33,51 +33,50 @@ claims t = (size-reads.Asked, size-reads.Learnt, next-reads.Asked, next-reads.Le
 
 module _ (t : ℕ) where
   -- the two offsets as they are read
-  i-read : (c : lts.Start (claims t) (divide-at t) divide.Post) → toZ w64 (ofZ w64 (now (c .args .i))) ≡ now (c .args .i)
-  i-read c = toZ-ofZ (Sequence.held-before (c .pre .1 .at) (c .pre .1 .small))
+  u-read : (c : lts.Start (claims t) (divide-at t) divide.Post) → toZ w64 (ofZ w64 (c .args .before .offset)) ≡ c .args .before .offset
+  u-read c = toZ-ofZ (Sequence.held-before (c .pre .1 .at) (c .pre .1 .small))
 
-  k-read : (c : lts.Start (claims t) (divide-at t) divide.Post) → toZ w64 (ofZ w64 (now (c .args .k))) ≡ now (c .args .k)
-  k-read c = toZ-ofZ (Sequence.held-last (c .pre .1 .at) (c .pre .1 .small))
+  v-read : (c : lts.Start (claims t) (divide-at t) divide.Post) → toZ w64 (ofZ w64 (c .args .last .offset)) ≡ c .args .last .offset
+  v-read c = toZ-ofZ (Sequence.held-last (c .pre .1 .at) (c .pre .1 .small))
 
   size-requires : lts.Need-size-requires (claims t) (divide-at t) divide.Post
   size-requires c κs = tt
 
-  -- the size that is tested is that of the offset
-  size-is : (c : lts.After-size (claims t) (divide-at t) divide.Post) → c .size .result ≡ natAbs (now (c .before .before .before .args .k))
-  size-is c = c .size .ensures ∙ ap natAbs (k-read (c .before .before .before))
+  -- the size that is tested is that of the last offset
+  size-is : (c : lts.After-size (claims t) (divide-at t) divide.Post) → c .size .result ≡ natAbs (c .before .before .before .before .args .last .offset)
+  size-is c = let s = c .before .before .before .before in c .size .ensures ∙ ap natAbs (ap (λ z. toZ w64 (ofZ w64 z)) (v-read s) ∙ v-read s)
 
   returns : lts.Need-returns (claims t) (divide-at t) divide.Post
-  returns c p r h = record { at = h; within = rw (size-is (c .before)) at (c .if1 .taken); past = c .before .before .before .before .pre .1 .past }
+  returns c p r h =
+      let d = c .before .before in
+      let s = d .before .before .before .before .before in
+      simp (u-read s, v-read s) (record { at = h; within = rw (size-is (d .before)) at (d .if1 .taken); past = s .pre .1 .past })
 
   -- past the test, the last vector reaches past the window
-  past : (c : lts.Else1 (claims t) (divide-at t) divide.Post) → c .before .before .before .before .args .window ≤ natAbs (now (c .before .before .before .before .args .k))
+  past : (c : lts.Else1 (claims t) (divide-at t) divide.Post) → let s = c .before .before .before .before .before .args in s .window ≤ natAbs (s .last .offset)
   past c = rw (size-is (c .before)) at (c .if1 .left)
 
   next-requires : lts.Need-next-requires (claims t) (divide-at t) divide.Post
   next-requires c κs =
-      let e = c .before .before in
-      let s = e .before .before .before .before in
-      rw (i-read s, k-read s) (Sequence.goes-on (s .pre .1) (past e))
+      let s = c .before .before .before .before .before in
+      rw (u-read s, v-read s) (Sequence.goes-on (s .pre .1) (past c))
 
   -- the vector after the last
-  after-is : (c : lts.After-next (claims t) (divide-at t) divide.Post) → let s = c .before .before .before .before .before .before .before .args in c .next .result ≡ nextOf (vector (now (s .i)) (now (s .j))) (vector (now (s .k)) (now (s .l)))
-  after-is c = let s = c .before .before .before .before .before .before .before in rw (i-read s, k-read s) at (c .next .ensures)
+  after-is : (c : lts.After-next (claims t) (divide-at t) divide.Post) → let s = c .before .before .before .before .before .before .args in c .next .result ≡ nextOf (s .before) (s .last)
+  after-is c = let s = c .before .before .before .before .before .before in rw (u-read s, v-read s) at (c .next .ensures)
 
   divide-requires : lts.Need-divide-requires (claims t) (divide-at t) divide.Post
   divide-requires c κs =
-      let n = c .before .before .before .before .before in
-      let e = n .before .before .before in
-      let s = e .before .before .before .before in
-      let next = Sequence.ready (s .pre .1) (past e) in
-      rw (k-read s, after-is n, toZ-ofZ (Sequence.held-last (next .at) (next .small))) (rw (← (s .pre .0)) (Sequence.falls (next .at)), next)
+      let n = c .before .before .before .before in
+      let s = n .before .before .before .before .before .before in
+      let next = Sequence.ready (s .pre .1) (past (n .before)) in
+      rw (v-read s, after-is n) (rw (← (s .pre .0)) (Sequence.falls (next .at)), next)
 
   returns-2 : lts.Need-returns-2 (claims t) (divide-at t) divide.Post
   returns-2 c p r h =
-      let n = c .before .before .before .before .before .before in
-      let e = n .before .before .before in
-      let s = e .before .before .before .before in
-      let next = Sequence.ready (s .pre .1) (past e) in
-      c .divide .ensures p r (rw (k-read s, after-is n, toZ-ofZ (Sequence.held-last (next .at) (next .small))) (Sequence.onward h (Sequence.goes-on (s .pre .1) (past e) .some)))
+      let n = c .before .before .before .before .before in
+      let s = n .before .before .before .before .before .before in
+      c .divide .ensures p r (rw (v-read s, after-is n) (Sequence.onward h (Sequence.goes-on (s .pre .1) (past (n .before)) .some)))
 
 pub +divide-spec : {M : Type 1} → statement M
 +divide-spec =
