@@ -8,7 +8,6 @@ use mathlib.Core.Logic.{_↔_, ⊎-elim}
 use mathlib.Core.Bool.{true, false}
 use Rattle.lattice.proofs.Congruence.{split, cong-iff-mod, cong-sym, cong-trans, cong-below}
 use Rattle.lattice.proofs.Differences.{On, Go, on-go, go-mod}
-use Rattle.lattice.proofs.Stage.{start}
 use Rattle.lattice.proofs.Row.{Leftmost, on-line, leftmost}
 use Rattle.scope.specs.declared.Run.{Run}
 use Rattle.scope.specs.declared.Source.{Source}
@@ -17,10 +16,13 @@ use Rattle.scope.specs.Hit.{isHit}
 use Rattle.scope.proofs.Numbering.{line-at, distance-at}
 use Rattle.scope.proofs.Hits as scope
 use Rattle.scope.proofs.Hits.{origin, hit-on, miss-on}
+use Rattle.vectors.specs.declared.Turn.{Turn}
+use Rattle.vectors.specs.Sequence.{firstTwo, Successive}
+use Rattle.vectors.proofs.Found.{first-two, start-left}
+use Rattle.vectors.proofs.Sequence.{size-of}
 use Rattle.hits.specs.declared.search.Point.{Point}
-use Rattle.hits.specs.declared.search.Stage.{Stage}
 use Rattle.hits.specs.declared.search.Found.the-variants.{Nothing}
-use Rattle.hits.specs.Search.{Divides, Seeking, FirstFrom, Enters, Sought}
+use Rattle.hits.specs.Search.{Seeking, FirstFrom, Enters, Sought}
 
 -- ---- cells by lines and distances
 
@@ -173,16 +175,16 @@ module _ {run : Run} (v : Valid run) (source : Source) where
 -- ---- the whole search
 
 -- the first two vectors of the division sequence
-abbrev pub begin : Run → Source → Stage
-begin run source = record { right = true; n = source .period; b = 0; m = run .interval % source .period; c = 1 }
+abbrev pub begin : Run → Source → Turn
+begin run source = firstTwo (source .period) (run .interval % source .period)
 
-pub begin-divides : (run : Run) {source : Source} → ValidSource source → Divides (source .period) (run .interval % source .period) (begin run source)
-begin-divides run s = start (mod-lt (run .interval) (s .ticks))
+pub begin-divides : (run : Run) {source : Source} → ValidSource source → Successive (source .period) (run .interval % source .period) (begin run source .before) (begin run source .last)
+begin-divides run s = first-two (mod-lt (run .interval) (s .ticks))
 
-pub begin-seeking : {run : Run} {source : Source} {d j : ℕ} → Valid run → ValidSource source → d < source .period → Seeking (begin run source) (record { distance = d; line = j }) (run .window) (run .last)
-begin-seeking {run} v s low = record {
+pub begin-seeking : {run : Run} {source : Source} {d j : ℕ} → Valid run → ValidSource source → d < source .period → Seeking (begin run source .before) (begin run source .last) (record { distance = d; line = j }) (run .window) (run .last)
+begin-seeking {run} {source} v s low = record {
   division = record { p = _; r = _; is = begin-divides run s; fits = s .fits };
-  below = omega arith;
+  below = rw (size-of (start-left (source .period))) (omega arith);
   short = v .ends;
 }
 

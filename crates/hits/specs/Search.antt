@@ -1,58 +1,50 @@
 -- What the inner steps of the search tell each other. A reader of the promises needs none of this.
 use Prim.Native.Nat.{ℕ, _+_, _≤_, _<_, max}
 use mathlib.Core.Path.{_≡_}
-use mathlib.Core.Bool.{Bool, true, false}
+use mathlib.Core.Bool.{true, false}
+use lib.IntN.{natAbs}
 use Rattle.lattice.proofs.Differences.{Go}
-use Rattle.lattice.proofs.Stage as lattice
 use Rattle.lattice.proofs.First.{First}
 use Rattle.scope.specs.declared.Run.{Run}
 use Rattle.scope.specs.declared.Source.{Source}
 use Rattle.scope.specs.Run.{cellsOf}
 use Rattle.scope.specs.Hit.{isHit}
+use Rattle.vectors.specs.declared.Vector.{Vector}
+use Rattle.vectors.specs.Sequence.{Successive}
 use Rattle.hits.specs.declared.search.Point.{Point}
-use Rattle.hits.specs.declared.search.Stage.{Stage}
 use Rattle.hits.specs.declared.search.Found.{Found}
 use Rattle.hits.specs.declared.search.Found.the-variants.{At, Nothing}
 
--- The side to which v moves.
-abbrev pub side : Bool → lattice.Side
-side true = lattice.right
-side false = lattice.left
-
--- The stage is one of the division sequence of the period p and the remainder r.
-abbrev pub Divides : ℕ → ℕ → Stage → Type 0
-Divides p r stage = lattice.Stage p r (side (stage .right)) (stage .n) (stage .m) (stage .b) (stage .c)
-
--- The same of some period within the limits.
-pub record Division (stage : Stage) : Type 0 where
+-- u and v are successive vectors of the division sequence of some period within the limits.
+pub record Division (u v : Vector) : Type 0 where
   pub p : ℕ
   pub r : ℕ
-  pub is : Divides p r stage
+  pub is : Successive p r u v
   pub fits : p ≤ 2147483647
 
--- A point outside the window that a stage with m > 0 can bring nearer.
-pub record Approaching (stage : Stage) (at : Point) (window : ℕ) : Type 0 where
-  pub division : Division stage
-  pub some : 0 < stage .m
+-- A point outside the window that u and v can bring nearer, since v's offset is not 0.
+pub record Approaching (u v : Vector) (at : Point) (window : ℕ) : Type 0 where
+  pub division : Division u v
+  pub some : 0 < natAbs (v .offset)
   pub outside : window ≤ at .distance
-  pub below : at .distance < stage .n
+  pub below : at .distance < natAbs (u .offset)
   pub low : at .line ≤ 16777216
 
 -- The point `to` is the first from `at` on that is nearer than some bound, which is no less than the window.
-pub record Nearer (p r : ℕ) (stage : Stage) (window : ℕ) (at to : Point) : Type 0 where
+pub record Nearer (p r : ℕ) (v : Vector) (window : ℕ) (at to : Point) : Type 0 where
   pub bound : ℕ
   pub lines : ℕ
   pub wide : window ≤ bound
   pub first : First p r bound (at .distance) lines (to .distance)
   pub moves : to .line ≡ at .line + lines
-  pub below : to .distance < max (stage .m) window
+  pub below : to .distance < max (natAbs (v .offset)) window
   pub nearer : to .distance ≤ at .distance
   pub few : lines ≤ p
 
 -- A point from which the window is sought, up to the last line.
-pub record Seeking (stage : Stage) (at : Point) (window last : ℕ) : Type 0 where
-  pub division : Division stage
-  pub below : at .distance < max (stage .n) window
+pub record Seeking (u v : Vector) (at : Point) (window last : ℕ) : Type 0 where
+  pub division : Division u v
+  pub below : at .distance < max (natAbs (u .offset)) window
   pub short : last ≤ 16777216
 
 -- The point `to` is the first within the window, and not past the last line.

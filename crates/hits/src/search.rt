@@ -3,28 +3,22 @@
 use scope::Run;
 use scope::RunCell;
 use scope::Source;
+use signed::size;
+use vectors::Vector;
+use vectors::first_two;
+use vectors::next;
 ghost use mathlib.Core.Path.{_≡_};
 ghost use Prim.Native.Nat.{ℕ, _+_, _-_, _*_, _%_, _≤_, _<_, max};
 ghost use Rattle.lattice.proofs.Multiples.{Above};
 ghost use Rattle.scope.specs.Run.{Valid, ValidSource, cellsOf};
 ghost use Rattle.scope.proofs.Hits.{origin};
-ghost use Rattle.hits.specs.Search.{Division, Divides, Approaching, Nearer, Seeking, Sought, FirstFrom};
+ghost use Rattle.vectors.specs.Sequence.{Successive};
+ghost use Rattle.hits.specs.Search.{Approaching, Nearer, Seeking, Sought, FirstFrom};
 
 // A point of a source: its distance from the window's left edge, to the right, and its line.
 pub struct Point {
     pub distance: u64,
     pub line: u64,
-}
-
-// Two successive vectors u and v of the division sequence, by size: u moves n to one side in b lines, v moves m < n to
-// the other in c lines. The area n·c + m·b is always the period.
-pub struct Stage {
-    // v moves right, and u left
-    pub right: bool,
-    pub n: u64,
-    pub b: u64,
-    pub m: u64,
-    pub c: u64,
 }
 
 // What a search comes to.
@@ -50,63 +44,53 @@ fn turns_past(gap: u64, step: u64) -> u64
     gap / step + 1
 }
 
-impl Stage {
-    // The next two vectors: v, and u with v added as often as m goes into n.
-    fn next(self) -> Stage
-        requires { ⌜ Division self × (0 < self .m) ⌝ }
-        ensures { λ r. ⌜ (r .m < self .m) × (r .n ≡ self .m) × ((p q : ℕ) → Divides p q self → Divides p q r) ⌝ }
-    {
-        Stage {
-            right: !self.right,
-            n: self.m,
-            b: self.c,
-            m: self.n % self.m,
-            c: self.b + self.n / self.m * self.c,
-        }
+// A point nearer to the window, with none passed over: `before` leads n ticks to one side and `last` m < n to the other.
+// Where `last` leads left, it is added until the point is nearer than m or the window's width; where it leads right, it is
+// added until the point is n or further right, and then `before` once, which gives the first point nearer than this one.
+fn approach(before: Vector, last: Vector, at: Point, window: u64) -> Point
+    requires { ⌜ Approaching before last at window ⌝ }
+    ensures { λ r. ⌜ ((p q : ℕ) → Successive p q before last → Nearer p q last window at r) ⌝ }
+{
+    let m = size(last.offset);
+    if at.distance < m {
+        return at;
     }
-
-    // A point nearer to the window, with none passed over: where v moves right, v is added until the point is n
-    // or further right, and then u once, which leads to the first point nearer than this one; where v moves left, v is added
-    // until the point is nearer than m or the window's width.
-    fn approach(self, at: Point, window: u64) -> Point
-        requires { ⌜ Approaching self at window ⌝ }
-        ensures { λ r. ⌜ ((p q : ℕ) → Divides p q self → Nearer p q self window at r) ⌝ }
-    {
-        if at.distance < self.m {
-            return at;
-        }
-        if self.right {
-            let turns = turns_past(self.n - at.distance - 1, self.m);
-            return Point {
-                distance: at.distance + turns * self.m - self.n,
-                line: at.line + (turns * self.c + self.b),
-            };
-        }
-        let turns = turns_past(at.distance - wider(self.m, window), self.m);
-        Point {
-            distance: at.distance - turns * self.m,
-            line: at.line + turns * self.c,
-        }
+    if last.offset < 0 {
+        let turns = turns_past(at.distance - wider(m, window), m);
+        return Point {
+            distance: at.distance - turns * m,
+            line: at.line + turns * last.line,
+        };
+    }
+    let n = size(before.offset);
+    let turns = turns_past(n - at.distance - 1, m);
+    Point {
+        distance: at.distance + turns * m - n,
+        line: at.line + (turns * last.line + before.line),
     }
 }
 
-// The first point within the window from `start` on: the point is brought nearer stage by stage, down the
-// division sequence, until it is within the window, past the last line, or the sequence ends.
-fn seek(begin: Stage, start: Point, window: u64, last: u64) -> Found
-    requires { ⌜ Seeking begin start window last ⌝ }
-    ensures { λ r. ⌜ ((p q : ℕ) → Divides p q begin → Sought p q window last start r) ⌝ }
+// The first point within the window from `start` on: the point is brought nearer vector by vector, down the division sequence,
+// until it is within the window, past the line `end`, or the sequence ends. The next vector is worked out before the point
+// moves, so that its division does not wait for the point's.
+fn seek(first: Vector, second: Vector, start: Point, window: u64, end: u64) -> Found
+    requires { ⌜ Seeking first second start window end ⌝ }
+    ensures { λ r. ⌜ ((p q : ℕ) → Successive p q first second → Sought p q window end start r) ⌝ }
 {
-    let mut stage = begin;
+    let mut before = first;
+    let mut last = second;
     let mut at = start;
-    while at.line <= last {
+    while at.line <= end {
         if at.distance < window {
             return Found::At(at);
         }
-        if stage.m == 0 {
+        if last.offset == 0 {
             return Found::Nothing;
         }
-        at = stage.approach(at, window);
-        stage = stage.next();
+        let after = next(before, last);
+        at = approach(before, last, at, window);
+        before = last;
+        last = after;
     }
     Found::Nothing
 }
@@ -126,19 +110,12 @@ fn find_from_line(run: Run, source: Source, line: u64) -> RunCell
     ensures { λ r. ⌜ FirstFrom run source ((line - run .first) * run .window) (r .0) ⌝ }
 {
     let window = run.window as u64;
-    let period = source.period as u64;
-    let stage = Stage {
-        right: true,
-        n: period,
-        b: 0,
-        m: run.interval as u64 % period,
-        c: 1,
-    };
+    let start = first_two(source.period, run.interval % source.period);
     let at = Point {
         distance: distance(run, source, line),
         line,
     };
-    match seek(stage, at, window, run.last as u64) {
+    match seek(start.before, start.last, at, window, run.last as u64) {
         Found::At(to) => RunCell((to.line - run.first as u64) * window + to.distance),
         Found::Nothing => RunCell(scope::cells(run)),
     }

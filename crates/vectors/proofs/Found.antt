@@ -1,11 +1,10 @@
 -- What stands where the division sequence is stopped: the single vector, or the pair. Assumes nothing.
-use Prim.Native.Nat.{ℕ, zero, suc, _+_, _-_, _*_, _/_, _≤_, _<_}
-use mathlib.Core.Path.{_≡_, refl, sym, ap, subst₂, _∙_}
+use Prim.Native.Nat.{ℕ, _+_, _-_, _*_, _/_, _≤_, _<_}
+use mathlib.Core.Path.{_≡_, refl, sym, ap, subst, subst₂, _∙_}
 use mathlib.Core.Bool.{true, false}
 use native.Mathlib.Omega.{arith}
-use lib.IntN.{ℤ, pos, negℤ, natAbs}
+use lib.IntN.{pos, natAbs}
 use lib.Signed.{ltZ}
-use Rattle.signed.proofs.Parts.{parts, neg-up, neg-dn}
 use Rattle.lattice.proofs.Gcd.{last-gcd, last-lines}
 use Rattle.lattice.proofs.Multiples.{rest}
 use Rattle.lattice.proofs.Pair.{Paired, paired}
@@ -13,12 +12,13 @@ use Rattle.lattice.proofs.Stage.{Side, left, right, other, ended, start}
 use Rattle.vectors.specs.declared.Vector.{Vector}
 use Rattle.vectors.specs.declared.Turn.{Turn}
 use Rattle.vectors.specs.Promise.{Askable}
-use Rattle.vectors.specs.Sequence.{partnerOf, toward, Moves, Successive, Ready, Stopped, Open}
+use Rattle.vectors.specs.Sequence.{partnerOf, Moves, Successive, Ready, Stopped, Open}
 use Rattle.vectors.specs.Vectors.{IsPair, IsSingle}
 use Rattle.vectors.proofs.Bridge.{leftward, rightward, from-magnitudes}
-use Rattle.vectors.proofs.Sequence.{size-of, moved}
+use Rattle.vectors.proofs.Sequence.{size-of, moved, some-size, side-left, side-right}
 
-start-left : (p : ℕ) → Moves left p 0 (leftward p 0)
+-- the first vector moves p to the left
+pub start-left : (p : ℕ) → Moves left p 0 (leftward p 0)
 start-left p = record { offset = refl; line = refl }
 
 -- the first two vectors are (-p, 0) and (r, 1)
@@ -80,22 +80,10 @@ both {p} {r} {I} {t} h some =
 
 -- the side of a vector by the sign of its offset
 pub pair-left : {p r I : ℕ} {t : Turn} → Stopped p r I t → 0 < natAbs (t .last .offset) → ltZ (t .last .offset) (pos 0) ≡ true → IsPair p r I (t .last) (partnerOf (t .before) (t .last) I)
-pair-left {p} {r} {I} {t} h some below = go (h .at .side) (h .at .last .offset) (both h some)
-  where
-    go : (s : Side) → t .last .offset ≡ toward s (h .at .m) → Ordered s p r I (t .last) (partnerOf (t .before) (t .last) I) → IsPair p r I (t .last) (partnerOf (t .before) (t .last) I)
-    go left e o = o
-    go right e o = absurd (let below′ : ltZ (pos (h .at .m)) (pos 0) ≡ true = rw e at below in omega (arith, parts))
+pair-left {p} {r} {I} {t} h some below = subst (λ s. Ordered s p r I (t .last) (partnerOf (t .before) (t .last) I)) (side-left (h .at) below) (both h some)
 
 pub pair-right : {p r I : ℕ} {t : Turn} → Stopped p r I t → 0 < natAbs (t .last .offset) → ltZ (t .last .offset) (pos 0) ≡ false → IsPair p r I (partnerOf (t .before) (t .last) I) (t .last)
-pair-right {p} {r} {I} {t} h some above = go (h .at .side) (h .at .last .offset) (both h some)
-  where
-    go : (s : Side) → t .last .offset ≡ toward s (h .at .m) → Ordered s p r I (t .last) (partnerOf (t .before) (t .last) I) → IsPair p r I (partnerOf (t .before) (t .last) I) (t .last)
-    go left e o =
-        absurd
-        (let above′ : ltZ (negℤ (pos (h .at .m))) (pos 0) ≡ false = rw e at above in
-        let some′ : 0 < h .at .m = rw (size-of (h .at .last)) at some in
-        omega (arith, parts, neg-up (pos (h .at .m)), neg-dn (pos (h .at .m))))
-    go right e o = o
+pair-right {p} {r} {I} {t} h some above = subst (λ s. Ordered s p r I (t .last) (partnerOf (t .before) (t .last) I)) (side-right (h .at) some above) (both h some)
 
 -- past the test for 0 there is a partner to look for
 pub partner-left : {p r I : ℕ} {t : Turn} → Stopped p r I t → p ≤ 2147483647 → (t .last .offset ≡ pos 0 → ⊥) → Open I (t .before) (t .last)
@@ -106,10 +94,5 @@ partner-left {p} {r} {I} {t} h small other = record {
   small = omega arith;
   within = h .within;
   past = h .past;
-  some = go (t .last .offset) other;
+  some = some-size (t .last .offset) other;
 }
-  where
-    go : (z : ℤ) → (z ≡ pos 0 → ⊥) → 0 < natAbs z
-    go (pos zero) n = absurd (n refl)
-    go (pos (suc k)) n = omega arith
-    go (lib.IntN.negsuc k) n = omega arith

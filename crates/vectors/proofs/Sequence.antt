@@ -4,10 +4,12 @@ use mathlib.Core.Path.{_≡_, refl, sym, ap, _∙_}
 use Prim.Native.Nat.{ℕ, zero, suc, _+_, _-_, _*_, _/_, _%_, _^_, _≤_, _<_}
 use native.Mathlib.Nat.{div-add-mod', div-mul-le-self, mod-lt}
 use native.Mathlib.Omega.{arith}
-use lib.IntN.{pos, negℤ, natAbs, _+ℤ_, _*ℤ_}
+use mathlib.Core.Bool.{true, false}
+use lib.IntN.{ℤ, pos, negsuc, negℤ, natAbs, _+ℤ_, _-ℤ_, _*ℤ_}
+use lib.Signed.{ltZ}
 use mir.Syntax.{w64}
 use mir.Val.{SFits}
-use Rattle.signed.proofs.Parts.{parts, neg-up, neg-dn}
+use Rattle.signed.proofs.Parts.{parts, sum, neg-up, neg-dn}
 use Rattle.signed.proofs.Difference.{differences}
 use Rattle.lattice.proofs.Multiples.{rest}
 use Rattle.lattice.proofs.Stage.{Side, left, right, other, Stage, bounds, slide-bound}
@@ -84,11 +86,45 @@ onward {p} {r} {u} {v} h l =
 pub falls : {p r : ℕ} {u v : Vector} → Successive p r u v → natAbs (v .offset) < natAbs (u .offset)
 falls h = rw (size-of (h .before), size-of (h .last)) (h .stage .falls)
 
+-- the sizes and the lines of two successive vectors are a stage
+pub staged : {p r : ℕ} {u v : Vector} (h : Successive p r u v) → Stage p r (h .side) (natAbs (u .offset)) (natAbs (v .offset)) (u .line) (v .line)
+staged h = rw (size-of (h .before), size-of (h .last), h .before .line, h .last .line) (h .stage)
+
+-- an offset other than 0 has a size
+pub some-size : (z : ℤ) → (z ≡ pos 0 → ⊥) → 0 < natAbs z
+some-size (pos zero) other = absurd (other refl)
+some-size (pos (suc k)) other = omega arith
+some-size (negsuc k) other = omega arith
+
+-- the side to which v leads, by the sign of its offset
+pub side-left : {p r : ℕ} {u v : Vector} (h : Successive p r u v) → ltZ (v .offset) (pos 0) ≡ true → h .side ≡ left
+side-left h below = go (h .side) (rw (h .last .offset) at below)
+  where
+    go : (s : Side) → ltZ (toward s (h .m)) (pos 0) ≡ true → s ≡ left
+    go left b = refl
+    go right b = absurd (omega (arith, parts))
+
+pub side-right : {p r : ℕ} {u v : Vector} (h : Successive p r u v) → 0 < natAbs (v .offset) → ltZ (v .offset) (pos 0) ≡ false → h .side ≡ right
+side-right h l above = go (h .side) (rw (h .last .offset) at above)
+  where
+    go : (s : Side) → ltZ (toward s (h .m)) (pos 0) ≡ false → s ≡ right
+    go left a = absurd (let m = some h l in omega (arith, parts, neg-up (pos (h .m)), neg-dn (pos (h .m))))
+    go right a = refl
+
 -- ---- every number of a step fits
 
 fits-toward : (s : Side) (n : ℕ) → n < 2 ^ 63 → SFits w64 (toward s n)
 fits-toward left n h = omega (arith, parts, neg-up (pos n), neg-dn (pos n))
 fits-toward right n h = omega (arith, parts)
+
+-- n and -n, as the code has them
+pub record Turned (n : ℕ) : Type 0 where
+  pub held : SFits w64 (pos n)
+  pub turned : pos 0 -ℤ pos n ≡ negℤ (pos n)
+  pub fits : SFits w64 (negℤ (pos n))
+
+pub turned : {n : ℕ} → n < 2 ^ 63 → Turned n
+turned {n} h = record { held = fits-toward right n h; turned = omega (arith, parts, sum (pos 0) (negℤ (pos n))); fits = fits-toward left n h }
 
 held : {s : Side} {n c p : ℕ} {v : Vector} → Moves s n c v → n ≤ p → p < 2 ^ 31 → SFits w64 (v .offset)
 held {s} {n} h k small = rw (h .offset) (fits-toward s n (omega arith))

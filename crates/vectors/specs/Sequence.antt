@@ -14,6 +14,10 @@ vector offset line = record { offset = offset; line = line }
 abbrev pub turn : Vector → Vector → Turn
 turn before last = record { before = before; last = last }
 
+-- "start with (-p, 0) and (r, 1)".
+abbrev pub firstTwo : ℕ → ℕ → Turn
+firstTwo p r = turn (vector (negℤ (pos p)) 0) (vector (pos r) 1)
+
 -- u plus q times v.
 abbrev pub plusTimes : Vector → ℕ → Vector → Vector
 plusTimes u q v = record { offset = u .offset +ℤ pos q *ℤ v .offset; line = u .line + q * v .line }

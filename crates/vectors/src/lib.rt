@@ -7,7 +7,7 @@ use signed::size;
 ghost use mathlib.Core.Path.{_≡_};
 ghost use Prim.Native.Nat.{_<_, _^_};
 ghost use Rattle.vectors.specs.Promise.{VectorsPromise, Spans, Askable};
-ghost use Rattle.vectors.specs.Sequence.{vector, turn, alongside, Reaches, plusTimes, nextOf, partnerOf, Ready, Divided, Open};
+ghost use Rattle.vectors.specs.Sequence.{vector, turn, firstTwo, alongside, Reaches, plusTimes, nextOf, partnerOf, Ready, Divided, Open};
 
 // A vector of the lattice: so many ticks of offset, to the right or (below 0) to the left, and so many lines on.
 pub struct Vector {
@@ -57,6 +57,22 @@ fn plus_times(before: Vector, times: u64, last: Vector) -> Vector
     Vector {
         offset: to_side_of(before.offset, rest),
         line: before.line + times * last.line,
+    }
+}
+
+// Inner step. The first two vectors of the division sequence: (-p, 0) and (r, 1).
+pub fn first_two(period: u32, remainder: u32) -> Turn
+    ensures { λ t. ⌜ t ≡ firstTwo period remainder ⌝ }
+{
+    Turn {
+        before: Vector {
+            offset: -(period as i64),
+            line: 0,
+        },
+        last: Vector {
+            offset: remainder as i64,
+            line: 1,
+        },
     }
 }
 
@@ -139,18 +155,8 @@ pub fn find_basis(period: u32, remainder: u32, window: u32) -> Basis
     requires { ⌜ Askable period remainder window ⌝ }
     ensures { λ r. ⌜ Spans period remainder window r ⌝ }
 {
-    let start = Vector {
-        offset: -(period as i64),
-        line: 0,
-    };
-    let turn = stop(
-        start,
-        Vector {
-            offset: remainder as i64,
-            line: 1,
-        },
-        window as u64,
-    );
+    let start = first_two(period, remainder);
+    let turn = stop(start.before, start.last, window as u64);
     let before = turn.before;
     let last = turn.last;
     if last.offset == 0 {

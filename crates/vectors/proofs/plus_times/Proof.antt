@@ -1,10 +1,11 @@
 -- `vectors::plus_times` meets its contract: every number on the way fits (Sequence). Assumes nothing.
-use mathlib.Core.Path.{_≡_, ap, _∙_}
+use mathlib.Core.Path.{_≡_, ap, ap₂, _∙_}
+use Prim.Native.Nat.{_-_, _*_}
 use borrow.Author.Needs.{needs}
 use native.Mathlib.Omega.{arith}
 use lib.IntN.{natAbs}
 use mir.Facts.{toZ-ofZ}
-use Rattle.vectors.specs.Sequence.{plusTimes}
+use Rattle.vectors.specs.Sequence.{plusTimes, alongside}
 use Rattle.vectors.proofs.Sequence.{Fitting, fitting, same-side}
 use Rattle.vectors.proofs.plus_times.Statement.{statement}
 use Rattle.vectors.proofs.plus_times.Tie as tie
@@ -45,8 +46,9 @@ left-over : (c : tie.After-to-side-of) → let s = c .before .before .before .be
 left-over c =
     let d = c .before .before in
     let s = d .before .before .before .before in
-    let r = s .pre .reach in
-    c .to-side-of .ensures ∙ rw (toZ-ofZ (at d .before), from d, by d) (same-side (s .pre .at) (s .args .times) _ (omega arith))
+    let reach = s .pre .reach in
+    let rest = ap₂ (λ n m. n - s .args .times * m) (from d) (by d) in
+    c .to-side-of .ensures ∙ ap₂ alongside (toZ-ofZ (at d .before)) rest ∙ same-side (s .pre .at) (s .args .times) _ (omega arith)
 
 returns : tie.Need-returns
 returns c =

@@ -1,29 +1,16 @@
 -- `vectors::to_side_of` meets its contract: n and -n are held by 64 bits. Assumes nothing.
 use mathlib.Core.Path.{_≡_, refl}
 use mathlib.Core.Bool.{true, false}
-use Prim.Native.Nat.{ℕ, _<_, _^_}
+use Prim.Native.Nat.{ℕ}
 use native.Mathlib.Omega.{arith}
-use lib.IntN.{ℤ, pos, negsuc, negℤ, _-ℤ_}
+use lib.IntN.{ℤ, pos, negsuc, negℤ}
 use lib.Signed.{ltZ}
-use mir.Syntax.{w64}
-use mir.Val.{SFits}
 use mir.Facts.{toZ-ofZ}
-use Rattle.signed.proofs.Parts.{parts, apart, sum, neg-up, neg-dn}
+use Rattle.signed.proofs.Parts.{parts}
 use Rattle.vectors.specs.Sequence.{alongside}
+use Rattle.vectors.proofs.Sequence.{turned}
 use Rattle.vectors.proofs.to_side_of.Statement.{statement}
 use Rattle.vectors.proofs.to_side_of.Tie as tie
-
-record Turned (n : ℕ) : Type 0 where
-  held : SFits w64 (pos n)
-  turned : pos 0 -ℤ pos n ≡ negℤ (pos n)
-  fits : SFits w64 (negℤ (pos n))
-
-turned : {n : ℕ} → n < 2 ^ 63 → Turned n
-turned {n} h = record {
-  held = omega (arith, parts);
-  turned = omega (arith, parts, sum (pos 0) (negℤ (pos n)));
-  fits = omega (arith, parts, neg-up (pos n), neg-dn (pos n));
-}
 
 -- to the left, and to the right
 leftward : (x : ℤ) (n : ℕ) → ltZ x (pos 0) ≡ true → alongside x n ≡ negℤ (pos n)
