@@ -20,6 +20,7 @@ unfoldable pub inputFrom : ℕ → ℤ → Input
 inputFrom count (pos n) = Text count
 inputFrom count (negsuc n) = Failed
 
+-- The same of a reading.
 unfoldable pub inputOf : Reading → Input
 inputOf reading = inputFrom (reading .count) (reading .last)
 
