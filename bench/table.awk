@@ -1,4 +1,4 @@
-# The rows of main.c as a table, and the bars.
+# The rows of main.c as a table, and what is aimed at (docs/DECISIONS.md says why).
 BEGIN {
     FS = "\t"
     what["map"] = "map"; what["vectors"] = "vectors"; what["first"] = "first hit"; what["list"] = "listing"
@@ -25,27 +25,27 @@ function short(x) { return x == "-" ? "" : x >= 100 ? sprintf("%.0f", x) : x >= 
     ours_of[$1] = $3; naive[$1] = $6; plain[$1] = $7
 }
 
-function bar(text, value, least) { print "| " text " | ≥ " least " | " short(value) " | " (value >= least ? "met" : "**missed**") " |" }
+function aim(text, value, least) { print "| " text " | ≥ " least " | " short(value) " | " (value >= least ? "met" : "**missed**") " |" }
 
 END {
     print ""
-    print "| bar, at a window of 512 | asked | found | |"
+    print "| aimed at, at a window of 512 | aim | found | |"
     print "|---|--:|--:|---|"
-    bar("naive / ours, mix, 1 MiB", naive["map mix 512 1"], 2.5)
-    bar("naive / ours, mix, 64 MiB", naive["map mix 512 64"], 4)
-    bar("naive / ours, 2^20, 1 MiB", naive["map 2^20 512 1"], 45)
-    bar("naive / ours, 2^20, 64 MiB", naive["map 2^20 512 64"], 45)
-    bar("naive / ours, 2^31, 1 MiB", naive["map 2^31 512 1"], 45)
-    bar("naive / ours, 2^31, 64 MiB", naive["map 2^31 512 64"], 1000)
+    aim("naive / ours, mix, 1 MiB", naive["map mix 512 1"], 2.5)
+    aim("naive / ours, mix, 64 MiB", naive["map mix 512 64"], 4)
+    aim("naive / ours, 2^20, 1 MiB", naive["map 2^20 512 1"], 45)
+    aim("naive / ours, 2^20, 64 MiB", naive["map 2^20 512 64"], 45)
+    aim("naive / ours, 2^31, 1 MiB", naive["map 2^31 512 1"], 45)
+    aim("naive / ours, 2^31, 64 MiB", naive["map 2^31 512 64"], 1000)
     n = split("mix 512 1,mix 512 64,2^20 512 1,2^20 512 64,2^31 512 1,2^31 512 64", rows, ",")
     for (k = 1; k <= n; k++) {
         split(rows[k], name, " ")
-        bar("C walk / ours, " name[1] ", " name[3] " MiB", plain["map " rows[k]], 0.9)
+        aim("C walk / ours, " name[1] ", " name[3] " MiB", plain["map " rows[k]], 0.9)
     }
-    bar("C / ours, first hit, 2^20", plain["first 2^20 512 64"], 0.7)
-    bar("C / ours, first hit, 2^31", plain["first 2^31 512 64"], 0.7)
-    bar("C / ours, vectors, 2^20", plain["vectors 2^20 512 -"], 0.7)
-    bar("C / ours, vectors, 2^31", plain["vectors 2^31 512 -"], 0.7)
+    aim("C / ours, first hit, 2^20", plain["first 2^20 512 64"], 0.7)
+    aim("C / ours, first hit, 2^31", plain["first 2^31 512 64"], 0.7)
+    aim("C / ours, vectors, 2^20", plain["vectors 2^20 512 -"], 0.7)
+    aim("C / ours, vectors, 2^31", plain["vectors 2^31 512 -"], 0.7)
     for (k = 1; k <= n; k++) if (("count " rows[k]) in ours_of) {
         split(rows[k], name, " ")
         v = ours_of["count " rows[k]]

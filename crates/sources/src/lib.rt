@@ -3,28 +3,54 @@
 use scope::Verdict;
 ghost use mathlib.Core.Path.{_≡_};
 ghost use lib.ListN.{length};
-ghost use Rattle.sources.specs.Entry.{entriesOf, listTests};
-ghost use Rattle.scope.specs.Refusal.{complaint};
+ghost use Rattle.sources.specs.Entry.{entriesOf, entryTests, listTests};
+ghost use Rattle.sources.specs.Verdicts.{firstOf};
+ghost use Rattle.scope.specs.Refusal.{complaint, weightTests};
 ghost use Rattle.scope.specs.Reply.{verdict};
+
+// The first of two verdicts, unless it is fine: then the second.
+fn first_of(first: Verdict, second: Verdict) -> Verdict
+    ensures { λ r. ⌜ r ≡ firstOf first second ⌝ }
+{
+    match first {
+        Verdict::Fine => second,
+        Verdict::Refused(number) => Verdict::Refused(number),
+    }
+}
+
+// What 01's table says of a weight.
+fn judge_weight(weight: u32) -> Verdict
+    ensures { λ r. ⌜ r ≡ verdict (complaint (weightTests 255 weight)) ⌝ }
+{
+    if weight == 0 {
+        return Verdict::Refused(7);
+    }
+    if 255 < weight {
+        return Verdict::Refused(7);
+    }
+    Verdict::Fine
+}
+
+// What it says of a source of a list: of its period first, then of its weight.
+fn judge_entry(period: u32, weight: u32) -> Verdict
+    ensures { λ r. ⌜ r ≡ verdict (complaint (entryTests 255 (record { source = record { period = period }; weight = weight }))) ⌝ }
+{
+    let of_period = scope::judge_period(period);
+    let of_weight = judge_weight(weight);
+    first_of(of_period, of_weight)
+}
 
 // Inner step. The first fault of the listed sources, in the order of the lists: a period comes before the weight beside it.
 pub fn judge_entries(periods: &[u32], weights: &[u32]) -> Verdict
     requires { ⌜ length (now periods) ≡ length (now weights) ⌝ }
     ensures { λ r. ⌜ r ≡ verdict (complaint (listTests 255 1 (entriesOf (now (periods .entry)) (now (weights .entry))))) ⌝ }
 {
+    let mut said = Verdict::Fine;
     let mut k = 0;
     while k < periods.len() {
-        if let Verdict::Refused(number) = scope::judge_period(periods[k]) {
-            return Verdict::Refused(number);
-        }
-        let weight = weights[k];
-        if weight == 0 {
-            return Verdict::Refused(7);
-        }
-        if 255 < weight {
-            return Verdict::Refused(7);
-        }
+        let next = judge_entry(periods[k], weights[k]);
+        said = first_of(said, next);
         k += 1;
     }
-    Verdict::Fine
+    said
 }

@@ -1,4 +1,5 @@
-// The bench figures of 01 that are not proved.
+// 01's two bench figures without a star, by running the calls: a window of 6 with a period of 4, which crate figures proves as well,
+// and the last line there is.
 use hits::FirstHit;
 use hits::Listing;
 use map::Added;
@@ -25,7 +26,8 @@ fn try_wide(ledger: &mut [u64]) {
     tally::count(ledger, WIDE, fine);
 }
 
-// What each call says of a run: the number that it refuses it with, or 0.
+// What the first hit says of a run: the number that it is refused with, or 0. Source and start are sound, so that the run alone
+// can be refused.
 fn first_hit_says(run: Run) -> u8 {
     match hits::first_hit(run, Source { period: 7 }, RunCell(0)) {
         FirstHit::Refused(number) => number,
@@ -34,7 +36,7 @@ fn first_hit_says(run: Run) -> u8 {
     }
 }
 
-// The same of listing. There is room, so that the run alone can be refused.
+// The same of listing. There is room.
 fn listing_says(run: Run) -> u8 {
     let mut room = [0u64; 2];
     match hits::list_hits(run, Source { period: 7 }, RunCell(0), &mut room) {
@@ -44,7 +46,7 @@ fn listing_says(run: Run) -> u8 {
     }
 }
 
-// The same of the map. The source is one of 01's example, so that the run alone can be refused.
+// The same of the map, of the run's length.
 fn map_says(run: Run, map: &mut [u8]) -> u8 {
     match map::add_to_map(run, &[7], &[60], map) {
         Added::Refused(number) => number,
@@ -52,7 +54,7 @@ fn map_says(run: Run, map: &mut [u8]) -> u8 {
     }
 }
 
-// The same of saving. It is given a map and a file of the right lengths, so that the run alone can be refused.
+// The same of saving, with a map and a file of the right lengths.
 fn saving_says(run: Run, map: &[u8], file: &mut [u8]) -> u8 {
     match saved::save(run, map, file) {
         Saved::Refused(number) => number,
@@ -60,7 +62,7 @@ fn saving_says(run: Run, map: &[u8], file: &mut [u8]) -> u8 {
     }
 }
 
-// Whether the four calls with a run of two lines of four cells all say this.
+// Whether these four calls all say this of a run of two lines of four cells.
 fn try_last(ledger: &mut [u64], last: u32, number: u8) {
     let run = Run {
         window: 4,

@@ -1,4 +1,4 @@
-// Random small runs: every call that takes a run is compared with a walk over all its cells.
+// Random small runs: first hit, listing and map are compared with a walk over all their cells, the step vectors with 01's conditions.
 use crate::listing;
 use crate::mapping;
 use scope::Run;

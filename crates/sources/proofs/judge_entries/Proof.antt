@@ -1,98 +1,81 @@
--- `sources::judge_entries` meets its contract. The loop's invariant: no entry before place k is at fault, so the tests from
--- there on come to what all of them come to. The measure is what is left of the lists. Assumes nothing.
+-- `sources::judge_entries` meets its contract. The loop's invariant: the verdict on the whole list is the first of what was said of
+-- the sources before place k and of the verdict on those from there on. The measure is what is left of the lists. Assumes nothing.
 use borrow.Author.Needs.{needs}
-use borrow.Author.Tests.{eq-eqb, ne-eqb, lt-ltb, le-ltb}
 use native.Mathlib.Omega.{arith}
 use native.Mathlib.Numerals.{add-one}
-use mathlib.Core.Path.{_≡_, refl, _∙_}
+use mathlib.Core.Path.{_≡_, refl, sym, _∙_}
 use mathlib.Core.List.{List}
 use Prim.Native.Nat.{ℕ, suc, _≤_, _<_, _-_, _+_}
 use lib.ListN.{length, getD, drop, drop-of-length-le}
-use Rattle.scope.specs.Refusal.{complaint, number, weightTests}
+use Rattle.scope.specs.Refusal.{complaint}
 use Rattle.scope.specs.Reply.{verdict}
-use Rattle.scope.specs.declared.Verdict.the-variants.{Fine, Refused}
-use Rattle.scope.proofs.Judged.{Fails, Passes, broken, sound, first, then, both, source-fails, no-tests, fine, blamed, refuse-verdict, grant-verdict}
+use Rattle.scope.specs.declared.Verdict.{Verdict}
+use Rattle.scope.specs.declared.Verdict.the-variants.{Fine}
 use Rattle.sources.specs.Entry.{entriesOf, entryTests, listTests}
+use Rattle.sources.specs.Verdicts.{firstOf}
 use Rattle.sources.proofs.Entries.{entry, entries-from}
+use Rattle.sources.proofs.Verdicts.{verdict-then, verdict-source, first-of-three, first-alone}
 use Rattle.sources.proofs.judge_entries.Statement.{statement}
 use Rattle.sources.proofs.judge_entries.Tie as tie
 
--- the tests from place k on come to what all of them come to
-record From (periods weights : List ℕ) (k : ℕ) : Type 0 where
+-- the verdict on the sources from place k on, counted from 0
+abbrev rest : List ℕ → List ℕ → ℕ → Verdict
+rest periods weights k = verdict (complaint (listTests 255 (suc k) (entriesOf (drop k periods) (drop k weights))))
+
+record From (periods weights : List ℕ) (said : Verdict) (k : ℕ) : Type 0 where
   equal : length periods ≡ length weights
   within : k ≤ length periods
-  same : complaint (listTests 255 1 (entriesOf periods weights)) ≡ complaint (listTests 255 (suc k) (entriesOf (drop k periods) (drop k weights)))
+  whole : rest periods weights 0 ≡ firstOf said (rest periods weights k)
 
-module _ {periods weights : List ℕ} {k : ℕ} (from : From periods weights k) where
-  refuse-at : {n : ℕ} → k < length periods → Fails (entryTests 255 (entry (getD periods k 0) (getD weights k 0))) n → Refused n ≡ verdict (complaint (listTests 255 1 (entriesOf periods weights)))
+starts : {periods weights : List ℕ} → length periods ≡ length weights → From periods weights Fine 0
+unfolding firstOf
+starts e = record { equal = e; within = omega arith; whole = refl }
+
+module _ {periods weights : List ℕ} {said : Verdict} {k : ℕ} (from : From periods weights said k) where
+  rest-is : k < length periods → rest periods weights k ≡ firstOf (verdict (complaint (entryTests 255 (entry (getD periods k 0) (getD weights k 0))))) (rest periods weights (suc k))
   unfolding listTests
-  refuse-at h f =
+  rest-is h =
       let l = from .equal in
-      rw (from .same, entries-from periods weights k h (omega arith)) (refuse-verdict (first (source-fails f)))
+      rw (entries-from periods weights k h (omega arith), verdict-then, verdict-source)
 
-  pass-at : k < length periods → Passes (entryTests 255 (entry (getD periods k 0) (getD weights k 0))) → From periods weights (k + 1)
-  unfolding listTests complaint
-  pass-at h p =
-      let l = from .equal in
+  steps : {next said′ : Verdict} → k < length periods → next ≡ verdict (complaint (entryTests 255 (entry (getD periods k 0) (getD weights k 0)))) → said′ ≡ firstOf said next → From periods weights said′ (k + 1)
+  steps h e f =
       record {
         equal = from .equal;
         within = omega arith;
-        same = from .same ∙ rw (entries-from periods weights k h (omega arith), p .is, add-one);
+        whole = rw (add-one, f, e) (from .whole ∙ rw (rest-is h) (first-of-three said _ _));
       }
 
-  pass-all : length periods ≤ k → Fine ≡ verdict (complaint (listTests 255 1 (entriesOf periods weights)))
-  unfolding entriesOf listTests
-  pass-all h = rw (from .same, drop-of-length-le periods h) (grant-verdict no-tests)
+  ends : length periods ≤ k → said ≡ rest periods weights 0
+  unfolding entriesOf listTests complaint
+  ends h = sym (from .whole ∙ rw (drop-of-length-le periods h) (first-alone said))
 
 abbrev Inv-loop : tie.InvT-loop
-Inv-loop periods weights k₀ k = From periods weights k
+Inv-loop periods weights said₀ k₀ said k = From periods weights said k
 
 abbrev μ-loop : tie.MeasureT-loop
-μ-loop periods weights k₀ k = length periods - k
+μ-loop periods weights said₀ k₀ said k = length periods - k
 
 loop-holds : tie.Need-loop-holds Inv-loop μ-loop
-loop-holds c = record { equal = c .before .before .pre; within = omega arith; same = refl }
+loop-holds c = starts (c .before .before .pre)
 
-mul-judge-period : tie.Need-mul-judge-period Inv-loop μ-loop
-mul-judge-period c = search needs
+mul-judge-entry : tie.Need-mul-judge-entry Inv-loop μ-loop
+mul-judge-entry c = search needs
 
-shared-slice-read-judge-period : tie.Need-shared-slice-read-judge-period Inv-loop μ-loop
-shared-slice-read-judge-period c = search needs
+shared-slice-read-judge-entry : tie.Need-shared-slice-read-judge-entry Inv-loop μ-loop
+shared-slice-read-judge-entry c = search needs
 
-judge-period-requires : tie.Need-judge-period-requires Inv-loop μ-loop
-judge-period-requires c κs = search needs
+mul-judge-entry-2 : tie.Need-mul-judge-entry-2 Inv-loop μ-loop
+mul-judge-entry-2 c = search needs
 
-enum-known-number : tie.Need-enum-known-number Inv-loop μ-loop
-enum-known-number c = search needs
+shared-slice-read-judge-entry-2 : tie.Need-shared-slice-read-judge-entry-2 Inv-loop μ-loop
+shared-slice-read-judge-entry-2 c = search needs
 
-returns : tie.Need-returns Inv-loop μ-loop
-unfolding entryTests
-returns c =
-    refuse-at (c .before .before .before .before .before .before .loop .inv) (c .before .before .before .before .before .loop-test .taken)
-    (first (blamed (c .before .before .before .judge-period .ensures) (c .before .number .given .1)))
+judge-entry-requires : tie.Need-judge-entry-requires Inv-loop μ-loop
+judge-entry-requires c κs = search needs
 
-enum-told : tie.Need-enum-told Inv-loop μ-loop
-enum-told c = search needs
-
-mul-weight : tie.Need-mul-weight Inv-loop μ-loop
-mul-weight c = search needs
-
-shared-slice-read-weight : tie.Need-shared-slice-read-weight Inv-loop μ-loop
-shared-slice-read-weight c = search needs
-
-returns-2 : tie.Need-returns-2 Inv-loop μ-loop
-unfolding entryTests weightTests number
-returns-2 c =
-    let period = fine (c .before .before .before .before .judge-period .ensures) (c .before .before .enum-told .given .1) in
-    refuse-at (c .before .before .before .before .before .before .before .loop .inv) (c .before .before .before .before .before .before .loop-test .taken)
-    (then period (first (broken (eq-eqb _ _ (c .if1 .taken)))))
-
-returns-3 : tie.Need-returns-3 Inv-loop μ-loop
-unfolding entryTests weightTests number
-returns-3 c =
-    let period = fine (c .before .before .before .before .before .judge-period .ensures) (c .before .before .before .enum-told .given .1) in
-    refuse-at (c .before .before .before .before .before .before .before .before .loop .inv) (c .before .before .before .before .before .before .before .loop-test .taken)
-    (then period (then (sound (ne-eqb _ _ (c .before .if1 .left))) (broken (lt-ltb _ _ (c .if2 .taken)))))
+first-of-requires : tie.Need-first-of-requires Inv-loop μ-loop
+first-of-requires c κs = search needs
 
 add-k : tie.Need-add-k Inv-loop μ-loop
 add-k c = search needs
@@ -101,14 +84,12 @@ loop-less : tie.Need-loop-less Inv-loop μ-loop
 loop-less c = search needs
 
 loop-again : tie.Need-loop-again Inv-loop μ-loop
-unfolding entryTests weightTests
 loop-again c =
-    let period = fine (c .before .before .before .before .before .judge-period .ensures) (c .before .before .before .enum-told .given .1) in
-    pass-at (c .before .before .before .before .before .before .before .before .loop .inv) (c .before .before .before .before .before .before .before .loop-test .taken)
-    (both period (both (sound (ne-eqb _ _ (c .before .if1 .left))) (sound (le-ltb _ _ (c .if2 .left)))))
+    let seen = c .before .before .before .before .loop-test .taken in
+    steps (c .before .before .before .before .before .loop .inv) (omega arith) (c .before .judge-entry .ensures) (c .first-of .ensures)
 
-returns-4 : tie.Need-returns-4 Inv-loop μ-loop
-returns-4 c = pass-all (c .before .loop .inv) (c .loop-test .left)
+returns : tie.Need-returns Inv-loop μ-loop
+returns c = ends (c .before .loop .inv) (c .loop-test .left)
 
 pub judge-entries-spec : {M : Type 1} → statement M
 judge-entries-spec =
@@ -117,17 +98,13 @@ judge-entries-spec =
     Inv-loop
     μ-loop
     loop-holds
-    mul-judge-period
-    shared-slice-read-judge-period
-    judge-period-requires
-    enum-known-number
-    returns
-    enum-told
-    mul-weight
-    shared-slice-read-weight
-    returns-2
-    returns-3
+    mul-judge-entry
+    shared-slice-read-judge-entry
+    mul-judge-entry-2
+    shared-slice-read-judge-entry-2
+    judge-entry-requires
+    first-of-requires
     add-k
     loop-less
     loop-again
-    returns-4)
+    returns)

@@ -1,0 +1,39 @@
+-- The verdict on tests that are taken one after the other is the first that refuses. Assumes nothing.
+use Prim.Native.Nat.{ℕ}
+use mathlib.Core.Path.{_≡_, refl}
+use mathlib.Core.Option.{Option, some, none}
+use Rattle.scope.specs.Refusal.{Complaint, Tests, _andThen_, ofSource, orElse, placed, complaint}
+use Rattle.scope.specs.Reply.{verdict}
+use Rattle.scope.specs.declared.Verdict.{Verdict}
+use Rattle.scope.specs.declared.Verdict.the-variants.{Fine, Refused}
+use Rattle.sources.specs.Verdicts.{firstOf}
+
+-- of two complaints
+verdict-or : (a b : Option Complaint) → verdict (orElse a b) ≡ firstOf (verdict a) (verdict b)
+unfolding firstOf
+verdict-or none b = refl
+verdict-or (some c) b = refl
+
+verdict-placed : (k : ℕ) (a : Option Complaint) → verdict (placed k a) ≡ verdict a
+verdict-placed k none = refl
+verdict-placed k (some c) = refl
+
+-- of tests, and of the tests of a source of a list, whatever its place
+pub verdict-then : (a b : Tests) → verdict (complaint (a andThen b)) ≡ firstOf (verdict (complaint a)) (verdict (complaint b))
+unfolding complaint
+verdict-then a b = verdict-or (complaint a) (complaint b)
+
+pub verdict-source : (k : ℕ) (tests : Tests) → verdict (complaint (ofSource k tests)) ≡ verdict (complaint tests)
+unfolding complaint
+verdict-source k tests = verdict-placed k (complaint tests)
+
+-- three verdicts in a row, and none after the first
+pub first-of-three : (a b c : Verdict) → firstOf a (firstOf b c) ≡ firstOf (firstOf a b) c
+unfolding firstOf
+first-of-three Fine b c = refl
+first-of-three (Refused n) b c = refl
+
+pub first-alone : (a : Verdict) → firstOf a Fine ≡ a
+unfolding firstOf
+first-alone Fine = refl
+first-alone (Refused n) = refl
