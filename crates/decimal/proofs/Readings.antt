@@ -1,8 +1,9 @@
--- A text has one reading at a place; and what a loop knows that passes one digit after the other: the number so far, and where none can stand.
+-- A text has one reading at a place; what a loop knows that passes one digit after the other: the number so far, and where none can stand;
+-- and so there is a reading at every place.
 -- Assumes nothing.
-use Prim.Native.Nat.{ℕ, _+_, _*_, _-_, _<_, _≤_, _^_}
+use Prim.Native.Nat.{ℕ, zero, suc, _+_, _*_, _-_, _<_, _≤_, _^_}
 use mathlib.Core.Path.{_≡_, refl, sym, ap, _∙_}
-use mathlib.Core.Bool.{true, false, true≢false}
+use mathlib.Core.Bool.{Bool, true, false, true≢false}
 use mathlib.Core.List.{List, [], _∷_, _++_, append-assoc}
 use native.Mathlib.Numerals.{add-one}
 use native.Mathlib.Decide.{decLt}
@@ -29,7 +30,7 @@ use Rattle.decimal.proofs.Laws.{
   value-prefix,
 }
 
--- ---- there is one
+-- ---- there is one at most
 
 -- two numbers that stand at one place are the same and end at the same place
 pub stands-unique : {text : List ℕ} {at v v′ next next′ : ℕ} → NumberStands text at v next → NumberStands text at v′ next′
@@ -148,3 +149,38 @@ module _ {text : List ℕ} {at : ℕ} where
   too-large {v} {next} {d} p g h w n s =
       let (more, e) = begins p g s in
       omega (arith, value-snoc v d, value-prefix w (digits v ++ ((48 + d) ∷ [])) more e, s .small)
+
+-- ---- there is a reading at every place
+
+module _ (text : List ℕ) (at : ℕ) where
+  -- after the digits passed: what follows them decides, or a reading after one digit more
+  one-more : {v next : ℕ} → Passed text at v next → ((w : ℕ) → Passed text at w (next + 1) → (n : Number) × Reading text at n)
+      → (n : Number) × Reading text at n
+  one-more {v} {next} p further = follows (beginsWithDigit (drop next text)) refl
+    where
+      follows : (b : Bool) → beginsWithDigit (drop next text) ≡ b → (n : Number) × Reading text at n
+      follows false e = (Value v next, passed-ends p e)
+      follows true e =
+          let d = getD text next 0 - 48 in
+          let g = digit text next d refl e in
+          elim (decLt 0 v) [
+            | yes pos ↦
+                elim (decLt (v * 10 + d) (2 ^ 32)) [
+                  | yes small ↦ further (v * 10 + d) (passed-more p g (λ z. omega arith) small)
+                  | no large ↦ (Bad, too-large p g (omega arith))
+                ]
+            | no nothing ↦ (Bad, leading-zero p g (omega arith))
+          ]
+
+  -- so many digits more, at most, are left of the text
+  digits-on : (left v next : ℕ) → length text ≤ next + left → Passed text at v next → (n : Number) × Reading text at n
+  digits-on zero v next h p = (Value v next, passed-ends p (begins-past text next (omega arith)))
+  digits-on (suc left) v next h p = one-more p (λ w q. digits-on left w (next + 1) (omega arith) q)
+
+  -- some reading fits
+  pub number-exists : (n : Number) × Reading text at n
+  number-exists = begins-so (beginsWithDigit (drop at text)) refl
+    where
+      begins-so : (b : Bool) → beginsWithDigit (drop at text) ≡ b → (n : Number) × Reading text at n
+      begins-so false e = (Bad, no-digit e)
+      begins-so true e = digits-on (length text) _ (at + 1) (omega arith) (passed-first (digit text at (getD text at 0 - 48) refl e))

@@ -1,7 +1,5 @@
--- For every input of six of the operations some reply fits the promise, so that the theorems over the promises are not empty.
--- Some reply and some report fit a text that says something, and one that has not the form; that each text is one of these is
--- what the proved functions show by their answers. (That the program's own reply fits is what the check of each of the eight
--- operations says.) Assumes nothing.
+-- For every input of each of the eight operations some reply fits the promise, so that the theorems over the promises are not empty.
+-- (That the program's own reply fits is what the check of each operation says.) Assumes nothing.
 use Prim.Native.Nat.{ℕ}
 use mathlib.Core.Path.{_≡_, refl}
 use mathlib.Core.Logic.{_⊎_, inl, inr}
@@ -38,8 +36,8 @@ use Rattle.sources.specs.Lists.{periodsOf, weightsOf}
 use Rattle.text.specs.declared.Answer.{Answer}
 use Rattle.text.specs.declared.Answer.the-variants.{Read, Refused as Refused·text}
 use Rattle.text.specs.declared.Input.{Input}
-use Rattle.text.specs.Form.{Content}
-use Rattle.text.specs.Promise.{Reads, replyTo, handed, padded, saysText, TextPromise}
+use Rattle.text.specs.Promise.{replyTo, handed, padded, saysText, TextPromise}
+use Rattle.text.proofs.Says.{reads-exists}
 use Rattle.report.specs.declared.Output.{Output}
 use Rattle.report.specs.Report.{reportOf, blank, ReportPromise}
 use Rattle.demands.proofs.Rendered.{judged}
@@ -117,7 +115,7 @@ reading-exists file map = go (judged (readingTests file map))
     go (inl p) = (Of _, _, grant-reading p refl refl)
     go (inr f) = (Refused·loaded (f .0), map, refuse-reading (f .1))
 
--- ---- text and report, by what the text says
+-- ---- text and report: every text says something, or it has not the form
 
 abbrev answer : Said Run → Answer
 answer (answered run) = Read run
@@ -127,15 +125,17 @@ says-answer : (s : Said Run) → saysText (answer s) ≡ s
 says-answer (answered run) = refl
 says-answer (refused n) = refl
 
--- Some reply fits a text that says this, or that has not the form.
-pub text-exists : (text : List ℕ) (o : Option Content) → Reads text o → (input : Input) × TextPromise text input
-text-exists text o r = (
-  record { answer = answer (replyTo o); count = length (handed o); periods = padded (periodsOf (handed o)); weights = padded (weightsOf (handed o)) },
-  record { content = o; reads = r; says = says-answer (replyTo o); counts = refl; periods = refl; weights = refl },
-)
+-- Some reply fits every text.
+pub text-exists : (text : List ℕ) → (input : Input) × TextPromise text input
+text-exists text =
+    let (o, r) = reads-exists text in (
+      record { answer = answer (replyTo o); count = length (handed o); periods = padded (periodsOf (handed o)); weights = padded (weightsOf (handed o)) },
+      record { content = o; reads = r; says = says-answer (replyTo o); counts = refl; periods = refl; weights = refl },
+    )
 
 -- And some output.
-pub report-exists : (text : List ℕ) (o : Option Content) → Reads text o → (output : Output) × ReportPromise text output
-report-exists text o r =
+pub report-exists : (text : List ℕ) → (output : Output) × ReportPromise text output
+report-exists text =
+    let (o, r) = reads-exists text in
     let bytes = reportOf o in
     (record { length = length bytes; bytes = bytes ++ drop (length bytes) blank }, record { content = o; reads = r; says = record { counts = refl; begins = refl } })

@@ -7,17 +7,18 @@ use mathlib.Core.Option.{some, none}
 use lib.ListN.{length, take, drop, replicate}
 use lib.Seq.{take-at}
 use Rattle.scope.specs.declared.Run.{Run}
-use Rattle.scope.specs.Refusal.{number}
 use Rattle.scope.proofs.Judged.{Fails, Passes, refuse-reply, grant-reply, refuse-stored, grant-stored}
 use Rattle.sources.specs.Entry.{Entry, entriesOf}
 use Rattle.sources.specs.Lists.{periodsOf, weightsOf}
 use Rattle.sources.proofs.Entries.{entries-of, periods-length, weights-length}
 use Rattle.text.specs.Form.{runWord, runNumbers, srcLines, textOf, Content, Spells}
 use Rattle.text.specs.Promise.{Reads, textTests, handed, padded, refusal, TextPromise}
-use Rattle.text.specs.Inner.{Line, NoLine, Lines, storedIn, LinesListed, NoLines}
+use Rattle.text.specs.Inner.{NotOfForm, Line, NoLine, Lines, storedIn, LinesListed, NoLines, SourcesAt, LinesAt}
 use Rattle.text.specs.declared.Input.{Input}
 use Rattle.text.specs.declared.Answer.the-variants.{Read}
-use Rattle.text.proofs.Lines.{line-split}
+use Rattle.text.specs.declared.Found.{Found}
+use Rattle.text.specs.declared.Found.the-variants.{Next, Refused}
+use Rattle.text.proofs.Lines.{line-split, line-run}
 use Rattle.text.proofs.Listing.{stored-fits}
 
 -- ---- what a text says
@@ -25,9 +26,9 @@ use Rattle.text.proofs.Listing.{stored-fits}
 pub too-long : {text : List ℕ} → 4096 < length text → Reads text none
 too-long h content s = omega (arith, s .short)
 
-pub no-run : {text : List ℕ} → NoLine text 0 runWord 4 → Reads text none
+pub no-run : {text : List ℕ} {count : ℕ} → count ≡ 4 → NoLine text 0 runWord count → Reads text none
 unfolding textOf
-no-run n content s = n .none (runNumbers (content .run)) (srcLines (content .entries)) refl (s .runSmall) (s .spelled)
+no-run e n content s = n .none (runNumbers (content .run)) (srcLines (content .entries)) (sym e) (s .runSmall) (s .spelled)
 
 module _ {text : List ℕ} {run : Run} {at : ℕ} (l : Line text 0 runWord (runNumbers run) at) where
   pub no-sources : NoLines text at → Reads text none
@@ -41,12 +42,19 @@ module _ {text : List ℕ} {run : Run} {at : ℕ} (l : Line text 0 runWord (runN
   has-form h m =
       record { spelled = l .stands .is ∙ rw (m .is); runSmall = l .small; allSmall = m .small; short = h }
 
+-- what reading the `src` lines answers, after a line with four numbers
+pub all-lines : {text numbers : List ℕ} {at : ℕ} → Line text 0 runWord numbers at → length numbers ≡ 4 → length text ≤ 4096
+    → (periods weights periods′ weights′ : List ℕ) (count : ℕ) (found : Found) → SourcesAt text at periods weights periods′ weights′ count found → LinesAt text numbers periods weights periods′ weights′ count found
+all-lines l h short periods weights periods′ weights′ count (Next end) s = record { short = short; at = _; runs = l; lists = s }
+all-lines l h short periods weights periods′ weights′ count (Refused n) s = (s .0, no-sources (line-run l h refl) (s .1 .none))
+
 -- ---- the reply that it makes
 
-pub refuses-form : {text : List ℕ} {input : Input} → Reads text none → input ≡ refusal 11 → TextPromise text input
-unfolding padded periodsOf weightsOf number
-refuses-form n e =
-    record { content = none; reads = n; says = rw e; counts = rw e; periods = rw e; weights = rw e }
+-- the refusal that was handed on
+pub refuses-form : {text : List ℕ} {n : ℕ} {input : Input} → Reads text none → NotOfForm n → input ≡ refusal n → TextPromise text input
+unfolding padded periodsOf weightsOf
+refuses-form r f e =
+    record { content = none; reads = r; says = rw (e, f); counts = rw e; periods = rw e; weights = rw e }
 
 pub refuses : {text : List ℕ} {content : Content} {n : ℕ} {input : Input} → Spells text content → Fails (textTests content) n
     → input ≡ refusal n → TextPromise text input
@@ -72,7 +80,7 @@ padded-is : (numbers : List ℕ) (count : ℕ) → length numbers ≡ count → 
 unfolding padded
 padded-is numbers count l h = stored-fits numbers (replicate 64 0) (omega arith) ∙ ap (λ rest. numbers ++ rest) (drop-zeros (length numbers) 64)
 
-pub accepts : {text : List ℕ} {run : Run} {at count : ℕ} {periods weights : List ℕ} (g : LinesListed text at count (replicate 64 0) (replicate 64 0) periods weights)
+pub accepts : {text : List ℕ} {run : Run} {at count next : ℕ} {periods weights : List ℕ} (g : LinesListed text at (replicate 64 0) (replicate 64 0) periods weights count next)
     → count ≤ 64
     → Spells text (record { run = run; entries = g .entries }) → Passes (textTests (record { run = run; entries = g .entries }))
     → TextPromise text (record { answer = Read run; count = count; periods = periods; weights = weights })
@@ -92,7 +100,7 @@ first-stored : (numbers : List ℕ) (count : ℕ) → length numbers ≡ count �
 first-stored numbers count l h = ap (take count) (stored-fits numbers (replicate 64 0) (omega arith)) ∙ take-at numbers _ count l
 
 -- the parts of the lists that are judged are the entries
-pub entries-stored : {text : List ℕ} {at count : ℕ} {periods weights : List ℕ} (g : LinesListed text at count (replicate 64 0) (replicate 64 0) periods weights)
+pub entries-stored : {text : List ℕ} {at count next : ℕ} {periods weights : List ℕ} (g : LinesListed text at (replicate 64 0) (replicate 64 0) periods weights count next)
     → count ≤ 64 → entriesOf (take count periods) (take count weights) ≡ g .entries
 entries-stored {count = count} {periods = periods} {weights = weights} g h =
     let p : take count periods ≡ periodsOf (g .entries) =

@@ -1,4 +1,5 @@
 pub mod Lines
 pub mod Listing
 pub mod Answers
+pub mod Says
 pub mod Unique

@@ -10,15 +10,14 @@ use native.Mathlib.Numerals.{add-one}
 use lib.ListN.{length, take, drop, getD, set, length-set, length-append, length-drop, drop-of-length-le}
 use lib.Seq.{drop-append-seam, take-suc, drop-cons, split-at, take-all, set-at}
 use Rattle.decimal.specs.Digits.{digits, beginsWithDigit}
-use Rattle.decimal.specs.Promises.{Reading}
-use Rattle.decimal.specs.declared.Number.{Number}
-use Rattle.decimal.specs.declared.Number.the-variants.{Value, Bad}
+use Rattle.decimal.specs.Promises.{NumberStands}
 use Rattle.decimal.proofs.Laws.{digits-split}
 use Rattle.decimal.proofs.Readings.{stands}
-use Rattle.text.specs.Form.{fields, line, Small}
-use Rattle.text.specs.Inner.{Spelled, NoWord, Field, NoField, FieldAt, Numbers, Line, NoLine, LineFails, LineAt, WordAt}
+use Rattle.scope.specs.declared.Run.{Run}
+use Rattle.text.specs.Form.{fields, line, Small, runNumbers}
+use Rattle.text.specs.Inner.{Spelled, NoWord, Field, NoField, FieldStored, FieldFails, Numbers, Line, NoLine, LineFails, LineAt, WordAt, runOf}
 use Rattle.text.specs.declared.Found.{Found}
-use Rattle.text.specs.declared.Found.the-variants.{Next, Nothing}
+use Rattle.text.specs.declared.Found.the-variants.{Next, Refused}
 
 -- what follows a common front
 pub behind : (front : List ℕ) {a b : List ℕ} → front ++ a ≡ front ++ b → a ≡ b
@@ -50,6 +49,9 @@ pub record Begun (text : List ℕ) (at : ℕ) (word : List ℕ) (k next : ℕ) :
   pub within : k ≤ length word
   pub stands : Spelled text at (take k word) next
 
+pub begun-none : (text : List ℕ) (at : ℕ) (word : List ℕ) → Begun text at word 0 at
+begun-none text at word = record { within = omega arith; stands = spelled-none }
+
 module _ {text : List ℕ} {at : ℕ} {word : List ℕ} {k next : ℕ} (b : Begun text at word k next) where
   -- the next byte is the word's
   pub byte-more : k < length word → next < length text → getD text next 0 ≡ getD word k 0 → Begun text at word (k + 1) (next + 1)
@@ -76,14 +78,22 @@ module _ {text : List ℕ} {at : ℕ} {word : List ℕ} {k next : ℕ} (b : Begu
   pub word-whole : length word ≤ k → Spelled text at word next
   word-whole h = rw (take-all k word h) at (b .stands)
 
+-- ---- a refusal that is handed on
+
+-- an answer that is a refusal is, for the next step, what this refusal is
+pub hand-on : {found : Found} {n : ℕ} → found ≡ Refused n → (Says Means : Found → Type 0) → Says found → (Says (Refused n) → Means (Refused n)) → Means found
+hand-on e Says Means says turn = subst Means (sym e) (turn (subst Says e says))
+
 -- ---- a space and a number
 
--- what reading a number answers after a space
-pub field-at : {text : List ℕ} {at start : ℕ} → Spelled text at (32 ∷ []) start → (n : Number) → Reading text start n → FieldAt text at n
-field-at s (Value v next) r =
-    record { small = r .small; stands = spelled-append s (record { is = r .spelled; place = r .place }); ended = r .ended }
-field-at {text} {at} {start} s Bad r =
-    record { none = λ v rest small ended e. r v _ (stands text start v rest small (spelled-forced s e) ended) }
+module _ {text : List ℕ} {at start : ℕ} (s : Spelled text at (32 ∷ []) start) where
+  -- the number that stands after a space
+  pub field-stands : {v next : ℕ} → NumberStands text start v next → Field text at v next
+  field-stands r = record { small = r .small; stands = spelled-append s (record { is = r .spelled; place = r .place }); ended = r .ended }
+
+  -- where none does
+  pub field-bad : ((v next : ℕ) → NumberStands text start v next → ⊥) → NoField text at
+  field-bad r = record { none = λ v rest small ended e. r v _ (stands text start v rest small (spelled-forced s e) ended) }
 
 pub no-space : {text : List ℕ} {at : ℕ} → NoWord text at (32 ∷ []) → NoField text at
 no-space n = record { none = λ v rest small ended e. n .none (digits v ++ rest) e }
@@ -182,7 +192,7 @@ module _ {text : List ℕ} {at : ℕ} {word : List ℕ} {next : ℕ} (s : Spelle
       record { none = λ numbers rest l small e. n .none numbers rest l small (spelled-forced s (e ∙ append-assoc word (fields numbers) rest)) }
 
 -- where the word does not stand, no line does
-no-word : {text : List ℕ} {at : ℕ} {word : List ℕ} → NoWord text at word → (count : ℕ) → NoLine text at word count
+pub no-word : {text : List ℕ} {at : ℕ} {word : List ℕ} → NoWord text at word → (count : ℕ) → NoLine text at word count
 unfolding line
 no-word {word = word} n count =
     record { none = λ numbers rest l small e. n .none (fields numbers ++ rest) (e ∙ append-assoc word (fields numbers) rest) }
@@ -232,18 +242,19 @@ passing-none {next = next} s room =
     record { start = next; named = s; numbers = []; stand = refl; counted = refl; within = omega arith; long = refl; stores = refl }
 
 module _ {text : List ℕ} {at : ℕ} {word before room : List ℕ} {k next : ℕ} (p : Passing text at word before room k next) where
-  pub passing-more : {v end : ℕ} → k < length room → Field text next v end → Passing text at word before (set room k v) (k + 1) end
-  passing-more {v} h f =
+  pub passing-more : {room′ : List ℕ} {end : ℕ} → k < length room → FieldStored text next room k room′ end → Passing text at word before room′ (k + 1) end
+  passing-more h f =
+      let v = f .value in
       let more = v ∷ [] in
       record {
         start = p .start;
         named = p .named;
         numbers = p .numbers ++ more;
-        stand = numbers-more (p .numbers) (p .start) next (p .stand) f;
+        stand = numbers-more (p .numbers) (p .start) next (p .stand) (f .stands);
         counted = length-append (p .numbers) more ∙ omega (arith, p .counted);
         within = omega (arith, p .long);
-        long = simp length-set (p .long);
-        stores = rw (p .stores) (store-next (p .numbers) before k v (p .counted) (omega (arith, p .long)));
+        long = ap length (f .stores) ∙ simp length-set (p .long);
+        stores = f .stores ∙ rw (p .stores) (store-next (p .numbers) before k v (p .counted) (omega (arith, p .long)));
       }
 
   -- the line breaks off there
@@ -265,18 +276,19 @@ module _ {text : List ℕ} {at : ℕ} {word before room : List ℕ} {k next : �
             };
       }
 
-  pub passing-bad : k < length room → NoField text next → LineFails text at word before room
-  passing-bad h n =
+  pub passing-bad : {room′ : List ℕ} → k < length room → FieldFails text next room room′ → LineFails text at word before room′
+  passing-bad h f =
+      let n = f .none in
       let less : length before - k ≡ suc (length before - (k + 1)) = omega (arith, p .long) in
-      breaks-off (λ l. n) (rw less (no-field n (length before - (k + 1))))
+      rw (f .kept) (breaks-off (λ l. n) (rw less (no-field n (length before - (k + 1)))))
 
   pub passing-ends : length room ≤ k → (f : Found) → WordAt text next (10 ∷ []) f → LineAt text at word before room f
   passing-ends h (Next end) w =
       let all : room ≡ p .numbers ++ [] = p .stores ∙ ap (λ r. p .numbers ++ r) (drop-of-length-le before {i = k} (omega (arith, p .long))) in
       subst (λ ns. Line text at word ns end) (sym all) (word-joins (p .named) (numbers-join (p .numbers) (p .start) next (p .stand) (newline w)))
-  passing-ends h Nothing w =
+  passing-ends h (Refused n) w =
       let none-left : length before - k ≡ 0 = omega (arith, p .long) in
-      breaks-off (λ l. absurd (omega (arith, p .long))) (rw none-left (no-newline w))
+      (w .0, breaks-off (λ l. absurd (omega (arith, p .long))) (rw none-left (no-newline (w .1))))
 
 -- where the word does not stand, the room is as it was
 pub line-unread : {text : List ℕ} {at : ℕ} {word : List ℕ} → NoWord text at word → (room : List ℕ) → LineFails text at word room room
@@ -300,5 +312,5 @@ module _ {text : List ℕ} {at : ℕ} {word room : List ℕ} {next : ℕ} (l : L
   pub line-two : length room ≡ 2 → Line text at word (getD room 0 0 ∷ getD room 1 0 ∷ []) next
   line-two h = subst (λ ns. Line text at word ns next) (two room h) l
 
-  pub line-four : length room ≡ 4 → Line text at word (getD room 0 0 ∷ getD room 1 0 ∷ getD room 2 0 ∷ getD room 3 0 ∷ []) next
-  line-four h = subst (λ ns. Line text at word ns next) (four room h) l
+  pub line-run : {run : Run} → length room ≡ 4 → run ≡ runOf room → Line text at word (runNumbers run) next
+  line-run h e = rw e (subst (λ ns. Line text at word ns next) (four room h) l)

@@ -9,7 +9,7 @@ use Rattle.sources.specs.Entry.{Entry}
 use Rattle.sources.specs.Lists.{periodsOf, weightsOf}
 use Rattle.sources.proofs.Entries.{entry, periods-length, weights-length, periods-append, weights-append}
 use Rattle.text.specs.Form.{line, srcWord, srcNumbers, srcLines, AllSmall}
-use Rattle.text.specs.Inner.{Spelled, Line, NoLine, Lines, storedIn, LinesListed, NoLines, LinesFail}
+use Rattle.text.specs.Inner.{Spelled, Line, NoLine, SourceStored, SourceFails, Lines, storedIn, LinesListed, NoLines, LinesFail}
 use Rattle.text.proofs.Lines.{spelled-none, spelled-append, spelled-within, line-split}
 
 -- ---- numbers stored from the front of a room on
@@ -83,12 +83,21 @@ line-long : (period weight : ℕ) → 0 < length (line srcWord (period ∷ weigh
 unfolding line
 line-long period weight = omega arith
 
+-- where the text has ended, no line is left
+pub lines-end : (text : List ℕ) (at : ℕ) → length text ≤ at → Lines text at []
+unfolding srcLines
+lines-end text at h = record { small = tt; is = drop-of-length-le text h }
+
 -- a line in front of lines
 module _ {text : List ℕ} {at period weight next : ℕ} (l : Line text at srcWord (period ∷ weight ∷ []) next) where
   pub line-ends : (at < next) × (next ≤ length text)
   line-ends = spelled-within (l .stands) (line-long period weight)
 
-  line-refutes : NoLines text next → NoLines text at
+  pub line-joins : {entries : List Entry} → Lines text next entries → Lines text at (entry period weight ∷ entries)
+  unfolding srcLines
+  line-joins m = record { small = (l .small, m .small); is = l .stands .is ∙ rw (m .is) }
+
+  pub line-refutes : NoLines text next → NoLines text at
   unfolding srcLines
   line-refutes n = record { none = go }
     where
@@ -99,7 +108,7 @@ module _ {text : List ℕ} {at period weight next : ℕ} (l : Line text at srcWo
           (record { small = m .small .1; is = line-split srcWord _ (srcNumbers e) (drop next text) (srcLines entries) (sym (l .stands .is) ∙ m .is) .1 })
 
 -- where the text has not ended and no line stands, no lines do
-no-line : {text : List ℕ} {at : ℕ} → at < length text → NoLine text at srcWord 2 → NoLines text at
+pub no-line : {text : List ℕ} {at : ℕ} → at < length text → NoLine text at srcWord 2 → NoLines text at
 unfolding srcLines
 no-line {text} {at} h n = record { none = go }
   where
@@ -111,12 +120,12 @@ no-line {text} {at} h n = record { none = go }
 
 module _ {text : List ℕ} {at : ℕ} {periods weights periods′ weights′ : List ℕ} {next count : ℕ}
     (g : Listing text at periods weights periods′ weights′ next count) where
-  pub listing-more : {period weight end : ℕ} {periods″ weights″ : List ℕ} → Line text next srcWord (period ∷ weight ∷ []) end
-      → periods″ ≡ set periods′ count period → weights″ ≡ set weights′ count weight
+  pub listing-more : {end : ℕ} {periods″ weights″ : List ℕ} → SourceStored text next periods′ weights′ count periods″ weights″ end
       → Listing text at periods weights periods″ weights″ end (count + 1)
   unfolding periodsOf weightsOf srcLines
-  listing-more {period} {weight} {end} l p w =
-      let new = entry period weight ∷ [] in
+  listing-more s =
+      let l = s .stands in
+      let new = entry (s .period) (s .weight) ∷ [] in
       let front = g .entries in
       record {
         entries = front ++ new;
@@ -125,32 +134,34 @@ module _ {text : List ℕ} {at : ℕ} {periods weights periods′ weights′ : L
         small = all-small-append front new (g .small) (l .small, tt);
         stand = rw (src-lines-append front new, append-nil) (spelled-append (g .stand) (l .stands));
         refutes = λ n. g .refutes (line-refutes l n);
-        periodsLong = ap length p ∙ simp length-set (g .periodsLong);
-        weightsLong = ap length w ∙ simp length-set (g .weightsLong);
-        storesPeriods = p ∙ rw (g .storesPeriods, periods-append front new, ← g .counted, ← periods-length front) (stored-more (periodsOf front) periods period);
-        storesWeights = w ∙ rw (g .storesWeights, weights-append front new, ← g .counted, ← weights-length front) (stored-more (weightsOf front) weights weight);
+        periodsLong = ap length (s .storesPeriod) ∙ simp length-set (g .periodsLong);
+        weightsLong = ap length (s .storesWeight) ∙ simp length-set (g .weightsLong);
+        storesPeriods = s .storesPeriod ∙ rw (g .storesPeriods, periods-append front new, ← g .counted, ← periods-length front) (stored-more (periodsOf front) periods (s .period));
+        storesWeights = s .storesWeight ∙ rw (g .storesWeights, weights-append front new, ← g .counted, ← weights-length front) (stored-more (weightsOf front) weights (s .weight));
       }
 
-  pub listing-ends : length text ≤ next → LinesListed text at count periods weights periods′ weights′
+  pub listing-ends : length text ≤ next → LinesListed text at periods weights periods′ weights′ count next
   listing-ends h =
       record {
         entries = g .entries;
         lines = record { small = g .small; is = g .stand .is ∙ rw (drop-of-length-le text h, append-nil) };
+        stand = g .stand;
         counted = g .counted;
         storesPeriods = g .storesPeriods;
         storesWeights = g .storesWeights;
       }
 
   -- the text goes on, and not with a line
-  pub listing-fails : next < length text → NoLine text next srcWord 2 → LinesFail text at periods weights periods′ weights′
-  listing-fails h n =
+  pub listing-fails : {periods″ weights″ : List ℕ} → next < length text → SourceFails text next periods′ weights′ periods″ weights″
+      → LinesFail text at periods weights periods″ weights″
+  listing-fails h f =
       record {
-        none = g .refutes (no-line h n);
+        none = g .refutes (no-line h (f .none));
         entries = g .entries;
         next = next;
         small = g .small;
         stand = g .stand;
-        ends = n;
-        storesPeriods = g .storesPeriods;
-        storesWeights = g .storesWeights;
+        ends = f .none;
+        storesPeriods = f .keptPeriods ∙ g .storesPeriods;
+        storesWeights = f .keptWeights ∙ g .storesWeights;
       }

@@ -1,23 +1,24 @@
--- What the inner steps of reading answer, each at a place of the text: what stands there and the place after it, or that nothing of the kind does.
+-- What the inner steps of reading answer, each at a place of the text: the place after what stands there, or the refusal where nothing of the kind does.
+-- A refusal carries its number from where it arises, and each step hands it on.
 use Prim.Native.Nat.{ℕ, _+_, _≤_, _<_, _^_}
 use mathlib.Core.Path.{_≡_}
 use mathlib.Core.Bool.{false}
 use mathlib.Core.List.{List, [], _∷_, _++_}
-use lib.ListN.{length, drop}
+use mathlib.Core.Option.{none}
+use lib.ListN.{length, drop, getD, set}
 use Rattle.decimal.specs.Digits.{digits, beginsWithDigit}
-use Rattle.decimal.specs.declared.Number.{Number}
-use Rattle.decimal.specs.declared.Number.the-variants.{Value, Bad}
+use Rattle.scope.specs.declared.Run.{Run}
+use Rattle.scope.specs.Refusal.{Text, number}
 use Rattle.sources.specs.Entry.{Entry}
 use Rattle.sources.specs.Lists.{periodsOf, weightsOf}
-use Rattle.text.specs.Form.{line, Small, runWord, srcWord, runNumbers, srcLines, AllSmall}
+use Rattle.text.specs.Form.{line, Small, runWord, srcWord, srcLines, AllSmall}
+use Rattle.text.specs.Promise.{Reads}
 use Rattle.text.specs.declared.Found.{Found}
-use Rattle.text.specs.declared.Found.the-variants.{Next, Nothing}
-use Rattle.text.specs.declared.RunLine.{RunLine}
-use Rattle.text.specs.declared.RunLine.the-variants.{Runs, NoRun}
-use Rattle.text.specs.declared.SourceLine.{SourceLine}
-use Rattle.text.specs.declared.SourceLine.the-variants.{Lists, NoSource}
-use Rattle.text.specs.declared.SourceLines.{SourceLines}
-use Rattle.text.specs.declared.SourceLines.the-variants.{Count, NoSources}
+use Rattle.text.specs.declared.Found.the-variants.{Next, Refused}
+
+-- "Anything else in the text is refused 11": the number that a refusal carries.
+abbrev pub NotOfForm : ℕ → Type 0
+NotOfForm n = n ≡ number Text
 
 -- These bytes stand in the text at `at`, up to `next`.
 pub record Spelled (text : List ℕ) (at : ℕ) (bytes : List ℕ) (next : ℕ) : Type 0 where
@@ -31,7 +32,7 @@ pub record NoWord (text : List ℕ) (at : ℕ) (word : List ℕ) : Type 0 where
 -- A word is looked for.
 abbrev pub WordAt : List ℕ → ℕ → List ℕ → Found → Type 0
 WordAt text at word (Next next) = Spelled text at word next
-WordAt text at word Nothing = NoWord text at word
+WordAt text at word (Refused n) = NotOfForm n × NoWord text at word
 
 -- A space and the number v stand at `at`, up to `next`, where no digit follows.
 pub record Field (text : List ℕ) (at v next : ℕ) : Type 0 where
@@ -43,10 +44,21 @@ pub record Field (text : List ℕ) (at v next : ℕ) : Type 0 where
 pub record NoField (text : List ℕ) (at : ℕ) : Type 0 where
   pub none : (v : ℕ) (rest : List ℕ) → v < 2 ^ 32 → beginsWithDigit rest ≡ false → drop at text ≡ (32 ∷ digits v) ++ rest → ⊥
 
+-- A space and a number stand at `at`, up to `next`, and the room has the number at k.
+pub record FieldStored (text : List ℕ) (at : ℕ) (room : List ℕ) (k : ℕ) (room′ : List ℕ) (next : ℕ) : Type 0 where
+  pub value : ℕ
+  pub stands : Field text at value next
+  pub stores : room′ ≡ set room k value
+
+-- None do, and the room is as it was.
+pub record FieldFails (text : List ℕ) (at : ℕ) (room room′ : List ℕ) : Type 0 where
+  pub none : NoField text at
+  pub kept : room′ ≡ room
+
 -- A space and a number are looked for.
-abbrev pub FieldAt : List ℕ → ℕ → Number → Type 0
-FieldAt text at (Value v next) = Field text at v next
-FieldAt text at Bad = NoField text at
+abbrev pub FieldAt : List ℕ → ℕ → List ℕ → ℕ → List ℕ → Found → Type 0
+FieldAt text at room k room′ (Next next) = FieldStored text at room k room′ next
+FieldAt text at room k room′ (Refused n) = NotOfForm n × FieldFails text at room room′
 
 -- A line with this word and these numbers stands at `at`, up to `next`.
 pub record Line (text : List ℕ) (at : ℕ) (word numbers : List ℕ) (next : ℕ) : Type 0 where
@@ -80,17 +92,31 @@ pub record LineFails (text : List ℕ) (at : ℕ) (word room room′ : List ℕ)
 -- A line with as many numbers as there is room for is looked for; the room has them afterwards.
 abbrev pub LineAt : List ℕ → ℕ → List ℕ → List ℕ → List ℕ → Found → Type 0
 LineAt text at word room room′ (Next next) = Line text at word room′ next
-LineAt text at word room room′ Nothing = LineFails text at word room room′
+LineAt text at word room room′ (Refused n) = NotOfForm n × LineFails text at word room room′
 
--- A `run` line is looked for where the text begins.
-abbrev pub RunAt : List ℕ → RunLine → Type 0
-RunAt text (Runs run next) = Line text 0 runWord (runNumbers run) next
-RunAt text NoRun = NoLine text 0 runWord 4
+-- The run that a line's four numbers say.
+abbrev pub runOf : List ℕ → Run
+runOf numbers =
+    record { window = getD numbers 0 0; interval = getD numbers 1 0; first = getD numbers 2 0; last = getD numbers 3 0 }
+
+-- A `src` line stands at `at`, up to `next`, and the two lists have its numbers at k.
+pub record SourceStored (text : List ℕ) (at : ℕ) (periods weights : List ℕ) (k : ℕ) (periods′ weights′ : List ℕ) (next : ℕ) : Type 0 where
+  pub period : ℕ
+  pub weight : ℕ
+  pub stands : Line text at srcWord (period ∷ weight ∷ []) next
+  pub storesPeriod : periods′ ≡ set periods k period
+  pub storesWeight : weights′ ≡ set weights k weight
+
+-- None does, and the two lists are as they were.
+pub record SourceFails (text : List ℕ) (at : ℕ) (periods weights periods′ weights′ : List ℕ) : Type 0 where
+  pub none : NoLine text at srcWord 2
+  pub keptPeriods : periods′ ≡ periods
+  pub keptWeights : weights′ ≡ weights
 
 -- A `src` line is looked for.
-abbrev pub SourceAt : List ℕ → ℕ → SourceLine → Type 0
-SourceAt text at (Lists source weight next) = Line text at srcWord (source .period ∷ weight ∷ []) next
-SourceAt text at NoSource = NoLine text at srcWord 2
+abbrev pub SourceAt : List ℕ → ℕ → List ℕ → List ℕ → ℕ → List ℕ → List ℕ → Found → Type 0
+SourceAt text at periods weights k periods′ weights′ (Next next) = SourceStored text at periods weights k periods′ weights′ next
+SourceAt text at periods weights k periods′ weights′ (Refused n) = NotOfForm n × SourceFails text at periods weights periods′ weights′
 
 -- From `at` on the text has these `src` lines and nothing else.
 pub record Lines (text : List ℕ) (at : ℕ) (entries : List Entry) : Type 0 where
@@ -103,10 +129,11 @@ storedIn numbers [] = []
 storedIn [] (old ∷ room) = old ∷ room
 storedIn (n ∷ numbers) (old ∷ room) = n ∷ storedIn numbers room
 
--- From `at` on the text has so many `src` lines and nothing else; the two lists have their numbers.
-pub record LinesListed (text : List ℕ) (at count : ℕ) (periods weights periods′ weights′ : List ℕ) : Type 0 where
+-- From `at` on the text has so many `src` lines, up to `next`, and nothing else; the two lists have their numbers.
+pub record LinesListed (text : List ℕ) (at : ℕ) (periods weights periods′ weights′ : List ℕ) (count next : ℕ) : Type 0 where
   pub entries : List Entry
   pub lines : Lines text at entries
+  pub stand : Spelled text at (srcLines entries) next
   pub counted : length entries ≡ count
   pub storesPeriods : periods′ ≡ storedIn (periodsOf entries) periods
   pub storesWeights : weights′ ≡ storedIn (weightsOf entries) weights
@@ -127,6 +154,18 @@ pub record LinesFail (text : List ℕ) (at : ℕ) (periods weights periods′ we
   pub storesWeights : weights′ ≡ storedIn (weightsOf entries) weights
 
 -- `src` lines are looked for, up to the end.
-abbrev pub SourcesAt : List ℕ → ℕ → List ℕ → List ℕ → List ℕ → List ℕ → SourceLines → Type 0
-SourcesAt text at periods weights periods′ weights′ (Count count) = LinesListed text at count periods weights periods′ weights′
-SourcesAt text at periods weights periods′ weights′ NoSources = LinesFail text at periods weights periods′ weights′
+abbrev pub SourcesAt : List ℕ → ℕ → List ℕ → List ℕ → List ℕ → List ℕ → ℕ → Found → Type 0
+SourcesAt text at periods weights periods′ weights′ count (Next next) = LinesListed text at periods weights periods′ weights′ count next
+SourcesAt text at periods weights periods′ weights′ count (Refused n) = NotOfForm n × LinesFail text at periods weights periods′ weights′
+
+-- The text is a `run` line with these numbers and, after it, so many `src` lines, whose numbers the two lists have.
+pub record AllLines (text numbers periods weights periods′ weights′ : List ℕ) (count next : ℕ) : Type 0 where
+  pub short : length text ≤ 4096
+  pub at : ℕ
+  pub runs : Line text 0 runWord numbers at
+  pub lists : LinesListed text at periods weights periods′ weights′ count next
+
+-- The lines of a whole text are looked for; of the lists nothing is said where it has not the form.
+abbrev pub LinesAt : List ℕ → List ℕ → List ℕ → List ℕ → List ℕ → List ℕ → ℕ → Found → Type 0
+LinesAt text numbers periods weights periods′ weights′ count (Next next) = AllLines text numbers periods weights periods′ weights′ count next
+LinesAt text numbers periods weights periods′ weights′ count (Refused n) = NotOfForm n × Reads text none

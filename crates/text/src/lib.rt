@@ -2,12 +2,11 @@
 // Every function is proved. `read_text` is the one public operation, and it asks nothing of its caller.
 use decimal::Number;
 use scope::Run;
-use scope::Source;
 use scope::Verdict;
 ghost use mathlib.Core.Path.{_≡_};
-ghost use lib.ListN.{set};
+ghost use lib.ListN.{length, set};
 ghost use Rattle.text.specs.Promise.{refusal, TextPromise};
-ghost use Rattle.text.specs.Inner.{WordAt, FieldAt, LineAt, RunAt, SourceAt, SourcesAt};
+ghost use Rattle.text.specs.Inner.{WordAt, FieldAt, LineAt, SourceAt, SourcesAt, LinesAt, runOf};
 
 // A text has at most so many bytes,
 const LONGEST: usize = 4096;
@@ -15,6 +14,8 @@ const LONGEST: usize = 4096;
 const SOURCES: usize = 64;
 // and a run of so many cells.
 const CELLS: u64 = 65536;
+// The number of the refusal of a text that has not the form: "text not of the form below".
+const FORM: u8 = 11;
 
 // The reply of reading a text.
 pub enum Answer {
@@ -33,36 +34,12 @@ pub struct Input {
     pub weights: [u32; SOURCES],
 }
 
-// What looking for something at a place of a text finds.
+// What a step of reading answers, at a place of a text.
 pub enum Found {
-    // The place after it.
+    // What it looks for stands there, and this is the place after it.
     Next(usize),
-    // It does not stand there.
-    Nothing,
-}
-
-// What looking for a `run` line finds.
-pub enum RunLine {
-    // The run, and the place after the line.
-    Runs(Run, usize),
-    // No such line stands there.
-    NoRun,
-}
-
-// What looking for a `src` line finds.
-pub enum SourceLine {
-    // The source, its weight, and the place after the line.
-    Lists(Source, u32, usize),
-    // No such line stands there.
-    NoSource,
-}
-
-// What looking for `src` lines up to the end of a text finds.
-pub enum SourceLines {
-    // How many there are.
-    Count(usize),
-    // Something else stands there.
-    NoSources,
+    // It does not: the refusal's number.
+    Refused(u8),
 }
 
 // The place after a word, where the text has it at `at`.
@@ -73,10 +50,10 @@ fn read_word(text: &[u8], at: usize, word: &[u8]) -> Found
     let mut k = 0;
     while k < word.len() {
         if text.len() <= next {
-            return Found::Nothing;
+            return Found::Refused(FORM);
         }
         if text[next] != word[k] {
-            return Found::Nothing;
+            return Found::Refused(FORM);
         }
         next += 1;
         k += 1;
@@ -84,89 +61,120 @@ fn read_word(text: &[u8], at: usize, word: &[u8]) -> Found
     Found::Next(next)
 }
 
-// A space and the number after it.
-fn read_field(text: &[u8], at: usize) -> Number
-    ensures { λ r. ⌜ FieldAt (now (text .entry)) at r ⌝ }
+// Stores a number at a place of a room that has the place, and nothing elsewhere.
+fn put(room: &mut [u32], k: usize, number: u32)
+    ensures { λ _. ⌜ now (room .exit) ≡ set (now (room .entry)) k number ⌝ }
 {
-    let Found::Next(start) = read_word(text, at, b" ") else {
-        return Number::Bad;
+    if k < room.len() {
+        room[k] = number;
+    }
+}
+
+// The place after a space and a number, which goes into the room at k.
+fn read_field(text: &[u8], at: usize, room: &mut [u32], k: usize) -> Found
+    ensures { λ r. ⌜ FieldAt (now (text .entry)) at (now (room .entry)) k (now (room .exit)) r ⌝ }
+{
+    let space = read_word(text, at, b" ");
+    let Found::Next(start) = space else {
+        return space;
     };
-    decimal::read_number(text, start)
+    let Number::Value(number, next) = decimal::read_number(text, start) else {
+        return Found::Refused(FORM);
+    };
+    put(room, k, number);
+    Found::Next(next)
 }
 
 // The place after a line that has the word and as many numbers as there is room for; the numbers go into the room.
 fn read_line(text: &[u8], at: usize, word: &[u8], room: &mut [u32]) -> Found
     ensures { λ r. ⌜ LineAt (now (text .entry)) at (now (word .entry)) (now (room .entry)) (now (room .exit)) r ⌝ }
 {
-    let Found::Next(start) = read_word(text, at, word) else {
-        return Found::Nothing;
+    let named = read_word(text, at, word);
+    let Found::Next(start) = named else {
+        return named;
     };
     let mut next = start;
     let mut k = 0;
     while k < room.len() {
-        let Number::Value(number, end) = read_field(text, next) else {
-            return Found::Nothing;
+        let field = read_field(text, next, room, k);
+        let Found::Next(end) = field else {
+            return field;
         };
-        room[k] = number;
         next = end;
         k += 1;
     }
     read_word(text, next, b"\n")
 }
 
-// The `run` line that a text begins with.
-fn read_run(text: &[u8]) -> RunLine
-    ensures { λ r. ⌜ RunAt (now (text .entry)) r ⌝ }
+// The place after a `src` line; its period and its weight go into the two lists at k, where there is room.
+fn read_source(text: &[u8], at: usize, periods: &mut [u32], weights: &mut [u32], k: usize) -> Found
+    ensures { λ r. ⌜ SourceAt (now (text .entry)) at (now (periods .entry)) (now (weights .entry)) k (now (periods .exit)) (now (weights .exit)) r ⌝ }
 {
-    let mut room = [0u32; 4];
-    let Found::Next(next) = read_line(text, 0, b"run", &mut room) else {
-        return RunLine::NoRun;
+    let mut numbers = [0u32; 2];
+    let line = read_line(text, at, b"src", &mut numbers);
+    let Found::Next(next) = line else {
+        return line;
     };
-    let run = Run {
-        window: room[0],
-        interval: room[1],
-        first: room[2],
-        last: room[3],
-    };
-    RunLine::Runs(run, next)
+    put(periods, k, numbers[0]);
+    put(weights, k, numbers[1]);
+    Found::Next(next)
 }
 
-// The `src` line at a place of a text.
-fn read_source(text: &[u8], at: usize) -> SourceLine
-    ensures { λ r. ⌜ SourceAt (now (text .entry)) at r ⌝ }
-{
-    let mut room = [0u32; 2];
-    let Found::Next(next) = read_line(text, at, b"src", &mut room) else {
-        return SourceLine::NoSource;
-    };
-    SourceLine::Lists(Source { period: room[0] }, room[1], next)
-}
-
-// Stores a number at a place of a room that has the place, and nothing elsewhere.
-fn put(room: &mut [u32], at: usize, number: u32)
-    ensures { λ _. ⌜ now (room .exit) ≡ set (now (room .entry)) at number ⌝ }
-{
-    if at < room.len() {
-        room[at] = number;
-    }
-}
-
-// The `src` lines from `at` up to the end of a text: all are read, and as many are stored as there is room for.
-fn read_sources(text: &[u8], at: usize, periods: &mut [u32], weights: &mut [u32]) -> SourceLines
-    ensures { λ r. ⌜ SourcesAt (now (text .entry)) at (now (periods .entry)) (now (weights .entry)) (now (periods .exit)) (now (weights .exit)) r ⌝ }
+// The place after the `src` lines from `at` on, where the text ends with them: all are read and counted, and as many are stored as there is room for.
+fn read_sources(
+    text: &[u8],
+    at: usize,
+    periods: &mut [u32],
+    weights: &mut [u32],
+    count: &mut usize,
+) -> Found
+    ensures { λ r. ⌜ SourcesAt (now (text .entry)) at (now (periods .entry)) (now (weights .entry)) (now (periods .exit)) (now (weights .exit)) (now (count .exit)) r ⌝ }
 {
     let mut next = at;
-    let mut count: usize = 0;
+    let mut k: usize = 0;
     while next < text.len() {
-        let SourceLine::Lists(source, weight, end) = read_source(text, next) else {
-            return SourceLines::NoSources;
+        let source = read_source(text, next, periods, weights, k);
+        let Found::Next(end) = source else {
+            return source;
         };
-        put(periods, count, source.period);
-        put(weights, count, weight);
-        count += 1;
         next = end;
+        k += 1;
     }
-    SourceLines::Count(count)
+    *count = k;
+    Found::Next(next)
+}
+
+// The lines of a whole text, which is not too long: the numbers of its `run` line, and its sources.
+fn read_lines(
+    text: &[u8],
+    numbers: &mut [u32],
+    periods: &mut [u32],
+    weights: &mut [u32],
+    count: &mut usize,
+) -> Found
+    requires { ⌜ length (now numbers) ≡ 4 ⌝ }
+    ensures { λ r. ⌜ LinesAt (now (text .entry)) (now (numbers .exit)) (now (periods .entry)) (now (weights .entry)) (now (periods .exit)) (now (weights .exit)) (now (count .exit)) r ⌝ }
+{
+    if LONGEST < text.len() {
+        return Found::Refused(FORM);
+    }
+    let run = read_line(text, 0, b"run", numbers);
+    let Found::Next(at) = run else {
+        return run;
+    };
+    read_sources(text, at, periods, weights, count)
+}
+
+// The run that the numbers of a `run` line say.
+fn run_of(numbers: [u32; 4]) -> Run
+    ensures { λ r. ⌜ r ≡ runOf numbers ⌝ }
+{
+    Run {
+        window: numbers[0],
+        interval: numbers[1],
+        first: numbers[2],
+        last: numbers[3],
+    }
 }
 
 // A refusal, and nothing with it.
@@ -187,17 +195,20 @@ fn refuse(number: u8) -> Input
 pub fn read_text(text: &[u8]) -> Input
     ensures { λ r. ⌜ TextPromise (now (text .entry)) r ⌝ }
 {
-    if LONGEST < text.len() {
-        return refuse(11);
-    }
-    let RunLine::Runs(run, at) = read_run(text) else {
-        return refuse(11);
-    };
+    let mut numbers = [0u32; 4];
     let mut periods = [0u32; SOURCES];
     let mut weights = [0u32; SOURCES];
-    let SourceLines::Count(count) = read_sources(text, at, &mut periods, &mut weights) else {
-        return refuse(11);
-    };
+    let mut count: usize = 0;
+    if let Found::Refused(number) = read_lines(
+        text,
+        &mut numbers,
+        &mut periods,
+        &mut weights,
+        &mut count,
+    ) {
+        return refuse(number);
+    }
+    let run = run_of(numbers);
     if let Verdict::Refused(number) = scope::judge_run(run) {
         return refuse(number);
     }

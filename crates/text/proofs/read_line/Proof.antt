@@ -2,58 +2,57 @@
 -- in front of what it had before.
 -- The measure is what is left of the room. Assumes nothing.
 use Prim.Native.Nat.{_-_}
-use mathlib.Core.Path.{subst}
+use mathlib.Core.Path.{subst, _∙_}
 use native.Mathlib.Omega.{arith}
 use borrow.Author.Needs.{needs}
 use lib.ListN.{length}
-use Rattle.text.specs.Inner.{WordAt, FieldAt}
-use Rattle.text.proofs.Lines.{Passing, line-unread, passing-none, passing-more, passing-bad, passing-ends}
+use Rattle.text.specs.Inner.{WordAt, FieldAt, LineAt}
+use Rattle.text.proofs.Lines.{hand-on, Passing, line-unread, passing-none, passing-more, passing-bad, passing-ends}
 use Rattle.text.proofs.read_line.Statement.{statement}
 use Rattle.text.proofs.read_line.Tie as tie
 
 abbrev Inv-loop : tie.InvT-loop
-Inv-loop text at word room₀ start next₀ k₀ t10 room next k = Passing text at word room₀ room k next
+Inv-loop text at word room₀ start next₀ k₀ t11 room next k = Passing text at word room₀ room k next
 
 abbrev μ-loop : tie.MeasureT-loop
-μ-loop text at word room₀ start next₀ k₀ t10 room next k = length room₀ - k
+μ-loop text at word room₀ start next₀ k₀ t11 room next k = length room₀ - k
 
 read-word-requires : tie.Need-read-word-requires Inv-loop μ-loop
 read-word-requires c κs = search needs
 
-enum-known-start : tie.Need-enum-known-start Inv-loop μ-loop
-enum-known-start c = search needs
+enum-known-named : tie.Need-enum-known-named Inv-loop μ-loop
+enum-known-named c = search needs
 
 enum-told : tie.Need-enum-told Inv-loop μ-loop
 enum-told c = search needs
 
 returns : tie.Need-returns Inv-loop μ-loop
-returns c = line-unread (subst (WordAt _ _ _) (c .enum-told .given .1) (c .before .before .read-word .ensures)) _
+returns c =
+    hand-on (c .enum-told .given .1) (WordAt _ _ _) (LineAt _ _ _ _ _) (c .before .before .read-word .ensures)
+    (λ r. (r .0, line-unread (r .1) _))
 
 loop-holds : tie.Need-loop-holds Inv-loop μ-loop
-loop-holds c = passing-none (subst (WordAt _ _ _) (c .before .start .given .1) (c .before .before .before .read-word .ensures)) _
+loop-holds c = passing-none (subst (WordAt _ _ _) (c .before .named .given .1) (c .before .before .before .read-word .ensures)) _
 
 read-field-requires : tie.Need-read-field-requires Inv-loop μ-loop
 read-field-requires c κs = search needs
 
-enum-known-number : tie.Need-enum-known-number Inv-loop μ-loop
-enum-known-number c = search needs
+enum-known-field : tie.Need-enum-known-field Inv-loop μ-loop
+enum-known-field c = search needs
 
 enum-told-2 : tie.Need-enum-told-2 Inv-loop μ-loop
 enum-told-2 c = search needs
 
 same-length : tie.Need-same-length Inv-loop μ-loop
-same-length c = c .before .before .before .before .loop .inv .long
+same-length c =
+    let read = c .before .before .before .before in
+    read .read-field .kept .1 .1 .0 ∙ read .before .before .before .loop .inv .long
 
 returns-2 : tie.Need-returns-2 Inv-loop μ-loop
 returns-2 c =
-    passing-bad (c .before .before .before .before .loop .inv) (omega arith)
-    (subst (FieldAt _ _) (c .enum-told2 .given .1) (c .before .before .read-field .ensures))
-
-mul-room : tie.Need-mul-room Inv-loop μ-loop
-mul-room c = search needs
-
-slice-write-room : tie.Need-slice-write-room Inv-loop μ-loop
-slice-write-room c = search needs
+    let read = c .before .before .before .before in
+    hand-on (c .enum-told2 .given .1) (FieldAt _ _ _ _ _) (LineAt _ _ _ _ _) (read .read-field .ensures)
+    (λ r. (r .0, passing-bad (read .before .before .before .loop .inv) (omega arith) (r .1)))
 
 add-k : tie.Need-add-k Inv-loop μ-loop
 add-k c = search needs
@@ -63,8 +62,9 @@ loop-less c = search needs
 
 loop-again : tie.Need-loop-again Inv-loop μ-loop
 loop-again c =
-    passing-more (c .before .before .before .before .before .loop .inv) (omega arith)
-    (subst (FieldAt _ _) (c .before .number .given .1) (c .before .before .before .read-field .ensures))
+    let read = c .before .before .before .before .before in
+    passing-more (read .before .before .before .loop .inv) (omega arith)
+    (subst (FieldAt _ _ _ _ _) (c .before .field .given .1) (read .read-field .ensures))
 
 slice-aggregate-read-word : tie.Need-slice-aggregate-read-word Inv-loop μ-loop
 slice-aggregate-read-word c = search needs
@@ -86,17 +86,15 @@ read-line-spec =
     Inv-loop
     μ-loop
     read-word-requires
-    enum-known-start
+    enum-known-named
     enum-told
     returns
     loop-holds
     read-field-requires
-    enum-known-number
+    enum-known-field
     enum-told-2
     same-length
     returns-2
-    mul-room
-    slice-write-room
     add-k
     loop-less
     loop-again

@@ -1,29 +1,30 @@
--- `text::read_sources` meets its contract. The loop's invariant: `count` lines are passed up to `next`, and stored as far as there is room.
+-- `text::read_sources` meets its contract. The loop's invariant: k lines are passed up to `next`, and stored as far as there is room.
 -- The measure is what is left of the text. Assumes nothing.
 use Prim.Native.Nat.{_-_}
-use mathlib.Core.Path.{subst}
-use mathlib.Core.List.{[], _∷_}
+use mathlib.Core.Path.{subst, _∙_}
 use native.Mathlib.Omega.{arith}
 use borrow.Author.Needs.{needs}
 use lib.ListN.{length}
-use Rattle.text.specs.Form.{srcWord}
-use Rattle.text.specs.Inner.{Line, SourceAt}
+use Rattle.text.specs.Inner.{SourceStored, SourceAt, SourcesAt}
+use Rattle.text.proofs.Lines.{hand-on}
 use Rattle.text.proofs.Listing.{Listing, listing-none, listing-more, listing-ends, listing-fails, line-ends}
 use Rattle.text.proofs.read_sources.Statement.{statement}
 use Rattle.text.proofs.read_sources.Tie as tie
 
 abbrev Inv-loop : tie.InvT-loop
-Inv-loop text at periods₀ weights₀ next₀ count₀ periods weights next count = Listing text at periods₀ weights₀ periods weights next count
+Inv-loop text at periods₀ weights₀ count next₀ k₀ periods weights next k = Listing text at periods₀ weights₀ periods weights next k
 
 abbrev μ-loop : tie.MeasureT-loop
-μ-loop text at periods₀ weights₀ next₀ count₀ periods weights next count = length text - next
+μ-loop text at periods₀ weights₀ count next₀ k₀ periods weights next k = length text - next
 
 -- the line that was read in this turn
 source-read : (c : tie.After-known-told Inv-loop μ-loop)
-    → let l = c .before .before .before .before .before in
-    let s = c .before .source .given .0 in
-    Line (l .before .before .before .before .args .text .now) (l .loop .next) srcWord (s .0 .period ∷ s .1 .0 ∷ []) (s .1 .1 .0)
-source-read c = subst (SourceAt _ _) (c .before .source .given .1) (c .before .before .before .read-source .ensures)
+    → let read = c .before .before .before .before .before .before .before in
+    let l = read .before .before .before .before in
+    let after = read .read-source .last .1 .1 in
+    SourceStored (l .before .before .before .before .args .text .now) (l .loop .next) (l .loop .periods) (l .loop .weights) (l .loop .k) (after .0) (after .1 .0)
+    (c .before .source .given .0 .0)
+source-read c = subst (SourceAt _ _ _ _ _ _ _) (c .before .source .given .1) (c .before .before .before .before .before .before .before .read-source .ensures)
 
 loop-holds : tie.Need-loop-holds Inv-loop μ-loop
 loop-holds c = listing-none _ _ _ _
@@ -38,34 +39,29 @@ enum-told : tie.Need-enum-told Inv-loop μ-loop
 enum-told c = search needs
 
 same-length : tie.Need-same-length Inv-loop μ-loop
-same-length c = c .before .before .before .before .loop .inv .periodsLong
+same-length c =
+    let read = c .before .before .before .before .before .before in
+    read .read-source .kept .1 .1 .0 ∙ read .before .before .before .before .loop .inv .periodsLong
 
 same-length-2 : tie.Need-same-length-2 Inv-loop μ-loop
-same-length-2 c = c .before .before .before .before .loop .inv .weightsLong
+same-length-2 c =
+    let read = c .before .before .before .before .before .before in
+    read .read-source .kept .1 .1 .1 .0 ∙ read .before .before .before .before .loop .inv .weightsLong
 
 returns : tie.Need-returns Inv-loop μ-loop
 returns c =
-    listing-fails (c .before .before .before .before .loop .inv) (omega arith)
-    (subst (SourceAt _ _) (c .enum-told .given .1) (c .before .before .read-source .ensures))
+    let read = c .before .before .before .before .before .before in
+    hand-on (c .enum-told .given .1) (SourceAt _ _ _ _ _ _ _) (SourcesAt _ _ _ _ _ _ _) (read .read-source .ensures)
+    (λ r. (r .0, listing-fails (read .before .before .before .before .loop .inv) (omega arith) (r .1)))
 
-put-requires : tie.Need-put-requires Inv-loop μ-loop
-put-requires c κs = search needs
-
-put-requires-2 : tie.Need-put-requires-2 Inv-loop μ-loop
-put-requires-2 c κs = search needs
-
-add-count : tie.Need-add-count Inv-loop μ-loop
-add-count c = search needs
+add-k : tie.Need-add-k Inv-loop μ-loop
+add-k c = search needs
 
 loop-less : tie.Need-loop-less Inv-loop μ-loop
-loop-less c = omega (arith, line-ends (source-read (c .before .before .before .before .before .before .before .before)))
+loop-less c = omega (arith, line-ends (source-read c .stands))
 
 loop-again : tie.Need-loop-again Inv-loop μ-loop
-loop-again c =
-    let put2 = c .before .before in
-    let put = put2 .before .before .before .before in
-    let line = put .before .before in
-    listing-more (line .before .before .before .before .before .loop .inv) (source-read line) (put .put .ensures) (put2 .put2 .ensures)
+loop-again c = listing-more (c .before .before .before .before .before .before .before .before .before .before .before .loop .inv) (source-read c)
 
 same-length-3 : tie.Need-same-length-3 Inv-loop μ-loop
 same-length-3 c = c .before .loop .inv .periodsLong
@@ -89,9 +85,7 @@ read-sources-spec =
     same-length
     same-length-2
     returns
-    put-requires
-    put-requires-2
-    add-count
+    add-k
     loop-less
     loop-again
     same-length-3

@@ -2,8 +2,10 @@
 -- The measure is what is left of the word. Assumes nothing.
 use Prim.Native.Nat.{_-_}
 use native.Mathlib.Omega.{arith}
+use mathlib.Core.Path.{refl}
 use lib.ListN.{length}
-use Rattle.text.proofs.Lines.{Begun, spelled-none, byte-more, byte-other, ends-there, word-whole}
+use Rattle.scope.specs.Refusal.{number}
+use Rattle.text.proofs.Lines.{Begun, begun-none, byte-more, byte-other, ends-there, word-whole}
 use Rattle.text.proofs.read_word.Statement.{statement}
 use Rattle.text.proofs.read_word.Tie as tie
 
@@ -14,10 +16,11 @@ abbrev μ-loop : tie.MeasureT-loop
 μ-loop text at word next₀ k₀ next k = length word - k
 
 loop-holds : tie.Need-loop-holds Inv-loop μ-loop
-loop-holds c = record { within = omega arith; stands = spelled-none }
+loop-holds c = begun-none _ _ _
 
 returns : tie.Need-returns Inv-loop μ-loop
-returns c = ends-there (c .before .before .loop .inv) (c .before .loop-test .taken) (c .if1 .taken)
+unfolding number
+returns c = (refl, ends-there (c .before .before .loop .inv) (c .before .loop-test .taken) (c .if1 .taken))
 
 shared-slice-read-if2 : tie.Need-shared-slice-read-if2 Inv-loop μ-loop
 shared-slice-read-if2 c = omega arith
@@ -26,7 +29,8 @@ shared-slice-read-if2-2 : tie.Need-shared-slice-read-if2-2 Inv-loop μ-loop
 shared-slice-read-if2-2 c = omega arith
 
 returns-2 : tie.Need-returns-2 Inv-loop μ-loop
-returns-2 c = byte-other (c .before .before .before .before .before .loop .inv) (omega arith) (omega arith) (c .if2 .taken)
+unfolding number
+returns-2 c = (refl, byte-other (c .before .before .before .before .before .loop .inv) (omega arith) (omega arith) (c .if2 .taken))
 
 add-next : tie.Need-add-next Inv-loop μ-loop
 add-next c = omega arith
