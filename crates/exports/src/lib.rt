@@ -1,4 +1,4 @@
-// The door for programs in other languages: one function for each public operation, called as a C function is.
+// The door for programs in other languages: one function for each public operation but the report, called as a C function is.
 // Every function is proved and asks nothing of its caller. A slice goes in as a pointer and a length.
 // An answer's refusal is 0, or the refusal's number; then all else in it is 0, and nothing lent was changed.
 use hits::FirstHit;
