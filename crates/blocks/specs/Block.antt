@@ -44,6 +44,10 @@ unfoldable pub allZero : List ℕ → Bool
 allZero [] = true
 allZero (byte ∷ bytes) = cond (eqb byte 0) (allZero bytes) false
 
+-- "Bytes 0-3: block number", "Bytes 508-511: check": both are right, of block k.
+unfoldable pub sealedWith : ℕ → List ℕ → Bool
+sealedWith k block = cond (eqb (fourAt block 0) k) (eqb (fourAt block 508) (checkOf block)) false
+
 -- "14: wrong block number or check", "15: .. filling not as laid down", of block k if it is to hold so many bytes before the filling.
 unfoldable pub blockTests : ℕ → ℕ → List ℕ → Tests
 blockTests k size block =

@@ -6,7 +6,7 @@ ghost use Prim.Native.Nat.{_+_, _*_, _≤_, _<_};
 ghost use lib.ListN.{length, drop, replicate};
 ghost use Rattle.scope.specs.Refusal.{complaint};
 ghost use Rattle.scope.specs.Reply.{verdict};
-ghost use Rattle.blocks.specs.Block.{four, fourAt, checkOf, blockOf, allZero, blockTests};
+ghost use Rattle.blocks.specs.Block.{four, fourAt, checkOf, blockOf, allZero, sealedWith, blockTests};
 
 // A block has so many bytes: its number, its contents, its check.
 pub const BLOCK: usize = 512;
@@ -108,19 +108,29 @@ pub fn write_block(number: u32, bytes: &[u8], block: &mut [u8])
     put_four(&mut block[CHECK..BLOCK], sum);
 }
 
+// Whether a block has this number and the check of its bytes.
+fn is_sealed(number: u32, block: &[u8]) -> bool
+    requires { ⌜ length (now block) ≡ 512 ⌝ }
+    ensures { λ r. ⌜ r ≡ sealedWith number (now (block .entry)) ⌝ }
+{
+    if four_at(block, 0) != number {
+        return false;
+    }
+    four_at(block, CHECK) == check(block)
+}
+
 // Inner step. What 01's table says of a block that is to have this number and to hold `size` bytes: 14 for the number or the check,
 // then 15 for the filling behind those bytes. A full block has none.
 pub fn judge_block(number: u32, size: usize, block: &[u8]) -> Verdict
     requires { ⌜ length (now block) ≡ 512 ⌝ }
     ensures { λ r. ⌜ r ≡ verdict (complaint (blockTests number size (now (block .entry)))) ⌝ }
 {
-    if four_at(block, 0) != number {
+    let sealed = is_sealed(number, block);
+    let filled = zeros_from(&block[4..CHECK], size);
+    if !sealed {
         return Verdict::Refused(14);
     }
-    if four_at(block, CHECK) != check(block) {
-        return Verdict::Refused(14);
-    }
-    if !zeros_from(&block[4..CHECK], size) {
+    if !filled {
         return Verdict::Refused(15);
     }
     Verdict::Fine

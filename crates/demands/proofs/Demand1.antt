@@ -23,8 +23,8 @@ use Rattle.scope.proofs.Judged.{Fails, sound, both}
 use Rattle.scope.proofs.Limits.{passes-when, passes-first, passes-then, valid-run, valid-run-passes, valid-source, valid-source-passes}
 use Rattle.sources.specs.Lists.{periodsOf, weightsOf, AllValid}
 use Rattle.sources.proofs.Entries.{entries-of, periods-length, weights-length, valid-entries, valid-entries-pass}
-use Rattle.vectors.specs.declared.Basis.{Basis}
 use Rattle.vectors.specs.declared.Steps.{Steps}
+use Rattle.vectors.specs.Vectors.{Values}
 use Rattle.vectors.specs.Promise.{vectorsTests, saysVectors, Admits, VectorsPromise}
 use Rattle.hits.specs.declared.FirstHit.{FirstHit}
 use Rattle.hits.specs.declared.Listing.{Listing}
@@ -57,8 +57,8 @@ pub vectors-refused : (p r I : ℕ) (steps : Steps) → VectorsPromise p r I ste
 unfolding VectorsPromise
 vectors-refused p r I steps h n = Iff·trans (admitted (complaint (vectorsTests p r I)) (saysVectors steps) refl h) (vectors-rows p r I .fails n)
   where
-    admitted : (o : Option Complaint) (said : Said Basis) → complaint (vectorsTests p r I) ≡ o → Admits o p r I said → (said ≡ refused n) ↔ Fails (vectorsTests p r I) n
-    admitted none (answered basis) i h = (λ e. absurd (let z : _≡_ {A = ℕ} 0 1 = cc in omega arith), λ f. absurd (let z : _≡_ {A = ℕ} 0 1 = cc in omega arith))
+    admitted : (o : Option Complaint) (said : Said Values) → complaint (vectorsTests p r I) ≡ o → Admits o p r I said → (said ≡ refused n) ↔ Fails (vectorsTests p r I) n
+    admitted none (answered values) i h = (λ e. absurd (let z : _≡_ {A = ℕ} 0 1 = cc in omega arith), λ f. absurd (let z : _≡_ {A = ℕ} 0 1 = cc in omega arith))
     admitted none (refused m) i h = absurd h
     admitted (some c) said i h = (λ e. record { blames = c; is = i; numbered = cc }, λ f. h ∙ cc)
 

@@ -19,13 +19,14 @@ use Rattle.scope.specs.declared.Source.{Source}
 use Rattle.scope.specs.Run.{Valid, lineOf}
 use Rattle.scope.specs.Hit.{Hits, instant}
 use Rattle.scope.specs.Refusal.{periodTests}
+use Rattle.scope.specs.Reply.{Said, refused, answered}
 use Rattle.scope.proofs.Judged.{Passes, both, sound}
 use Rattle.scope.proofs.Limits.{valid-window-passes}
 use Rattle.scope.proofs.Hits.{hit-hits, one-hit-on-line}
 use Rattle.vectors.specs.declared.Vector.{Vector}
 use Rattle.vectors.specs.declared.Steps.{Steps}
-use Rattle.vectors.specs.declared.Steps.the-variants.{Pair, Single, Refused}
-use Rattle.vectors.specs.Vectors.{InLattice, IsPair, APair, Whole, Sum, IsSingle}
+use Rattle.vectors.specs.Sequence.{vector}
+use Rattle.vectors.specs.Vectors.{InLattice, IsPair, APair, Whole, Sum, IsSingle, Values, pair, single}
 use Rattle.vectors.specs.Promise.{vectorsTests, saysVectors, Admits, VectorsPromise}
 use Rattle.vectors.proofs.Theorems as Theorems
 use Rattle.vectors.proofs.Proposition as Proposition
@@ -47,33 +48,30 @@ gcd-exists r p low =
     let below = end .below in
     (end .n, last-gcd (ended (end .stage) (omega arith)))
 
-single-is : {p r I g : ℕ} {v : Vector} → IsGcd g r p → IsSingle p r I v ↔ ((I ≤ g) × (v ≡ record { offset = pos 0; line = p / g }))
-single-is {p} {r} {I} {g} {v} is = (to, from)
-  where
-    to : IsSingle p r I v → (I ≤ g) × (v ≡ record { offset = pos 0; line = p / g })
-    to s =
-        let same : s .g ≡ g = gcd-unique (s .is-gcd) is in
-        let rises : v .line ≡ p / g = s .rises ∙ ap (λ n. p / n) same in
-        let at-zero = s .at-zero in
-        (omega (arith, s .wide), λ i. record { offset = at-zero i; line = rises i })
+single-is : {p r I g j : ℕ} {i : ℤ} → IsGcd g r p → IsSingle p r I (vector i j) ↔ ((I ≤ g) × (i ≡ pos 0) × (j ≡ p / g))
+single-is {p} {r} {I} {g} {j} {i} is = (
+  λ s. let same : s .g ≡ g = gcd-unique (s .is-gcd) is in (omega (arith, s .wide), s .at-zero, s .rises ∙ ap (λ n. p / n) same),
+  λ h. record { g = g; is-gcd = is; wide = h .0; at-zero = h .1; rises = h .2 },
+)
 
-    from : (I ≤ g) × (v ≡ record { offset = pos 0; line = p / g }) → IsSingle p r I v
-    from h = record { g = g; is-gcd = is; wide = h .0; at-zero = ap (λ (w : Vector). w .offset) (h .1); rises = ap (λ (w : Vector). w .line) (h .1) }
-
-admits-is : {p r g : ℕ} (I : ℕ) → IsGcd g r p → (steps : Steps) → Admits none p r I (saysVectors steps) ↔ StepVectors p r I g steps
-admits-is I is (Pair left right) = (λ h. h, λ h. h)
-admits-is I is (Single v) = single-is is
-admits-is I is (Refused n) = (λ h. h, λ h. h)
+admits-is : {p r g : ℕ} (I : ℕ) → IsGcd g r p → (said : Said Values) → Admits none p r I said ↔ StepVectors p r I g said
+admits-is I is (answered (pair α β γ δ)) = (λ h. h, λ h. h)
+admits-is I is (answered (single i j)) = single-is is
+admits-is I is (refused n) = (λ h. h, λ h. h)
 
 -- "the step vectors are those of Franke and Kleinjung's first proposition, or the single vector": a reply fits the promise
--- exactly if it is these.
-pub vectors-are : (p r I g : ℕ) → Asked p r I → IsGcd g r p → (steps : Steps) → VectorsPromise p r I steps ↔ StepVectors p r I g steps
+-- exactly if what it says is these.
+pub vectors-are : (p r I g : ℕ) → Asked p r I → IsGcd g r p → (steps : Steps) → VectorsPromise p r I steps ↔ StepVectors p r I g (saysVectors steps)
 unfolding VectorsPromise
-vectors-are p r I g a is steps = rw (accepted a .is) (admits-is I is steps)
+vectors-are p r I g a is steps = rw (accepted a .is) (admits-is I is (saysVectors steps))
 
 -- "where no such pair exists": some pair meets the proposition's conditions exactly if g is less than the window.
 pub pair-exists : (p r I g : ℕ) → Asked p r I → IsGcd g r p → APair p r I ↔ (g < I)
 pair-exists p r I g a is = Theorems.pair-exactly-when (a .remainder) (a .fits) is
+
+-- "with g = gcd(r, p) .. no pair exists exactly when g ≥ I".
+pub no-pair-exists : (p r I g : ℕ) → Asked p r I → IsGcd g r p → (APair p r I → ⊥) ↔ (I ≤ g)
+no-pair-exists p r I g a is = Theorems.no-pair-exactly-when (a .remainder) (a .fits) is
 
 -- "At most one such pair exists."
 pub pair-unique : (p r I : ℕ) {left right left′ right′ : Vector} → IsPair p r I left right → IsPair p r I left′ right′ → (left ≡ left′) × (right ≡ right′)

@@ -3,6 +3,7 @@
 pub mod Rendered
 pub mod Rows
 pub mod Demand1
+pub mod Demand1Exports
 pub mod NoSecondReply
 pub mod SomeReply
 pub mod Demand2Vectors

@@ -1,5 +1,5 @@
 -- A call's tests and the rows of 01's table: the complaint has the number n exactly if the table says n. Assumes nothing.
-use Prim.Native.Nat.{ℕ}
+use Prim.Native.Nat.{ℕ, _≤_}
 use mathlib.Core.Path.{_≡_, refl, sym, ap, _∙_, subst}
 use mathlib.Core.Logic.{_↔_, Iff·trans, _⊎_, inl, inr, ⊎-elim}
 use mathlib.Core.Bool.{Bool, true, false}
@@ -8,7 +8,7 @@ use mathlib.Core.Option.{Option, some, none}
 use native.Mathlib.Omega.{arith}
 use Rattle.scope.specs.Refusal.{Reason, Complaint, Tests, _when_, _andThen_, ofSource, nothing, orElse, complaint, number}
 use Rattle.scope.specs.Reply.{Said, refused, reply, stored}
-use Rattle.scope.proofs.Judged.{Fails, Passes, broken, sound, first, then, both, source-fails, source-passes, no-tests, refuse-reply, refuse-stored, said-refused}
+use Rattle.scope.proofs.Judged.{Fails, Passes, broken, sound, first, then, both, source-fails, source-passes, no-tests, refuse-reply, refuse-stored, said-refused, number-some}
 use Rattle.scope.proofs.Limits.{passes-first, passes-then, passes-source}
 use Rattle.scope.proofs.Hits.{hit-or-miss}
 use Rattle.demands.specs.Table.{Row, _given_, Says, Silent}
@@ -98,6 +98,10 @@ pub silent-says : (s : List Row) (n : ℕ) → Silent s → Says s n → ⊥
 silent-says [] n h k = k
 silent-says (row ∷ s) n h (inl k) = h .0 (k .1)
 silent-says (row ∷ s) n h (inr k) = silent-says s n (h .1) (k .1)
+
+-- no number that a table says is 0
+pub said-some : {tests : Tests} {table : List Row} → Renders tests table → (n : ℕ) → Says table n → 1 ≤ n
+said-some rows n s = let f = rows .fails n .1 s in omega (arith, number-some (f .blames .reason), f .numbered)
 
 infixl 40 _next_
 -- the tests of one table, then those of another

@@ -3,9 +3,9 @@
 use Prim.Native.Nat.{ℕ, _/_, _%_, _≤_, _<_}
 use mathlib.Core.Path.{_≡_}
 use lib.IntN.{pos}
-use Rattle.vectors.specs.declared.Steps.{Steps}
-use Rattle.vectors.specs.declared.Steps.the-variants.{Pair, Single, Refused}
-use Rattle.vectors.specs.Vectors.{IsPair}
+use Rattle.scope.specs.Reply.{Said, refused, answered}
+use Rattle.vectors.specs.Sequence.{vector}
+use Rattle.vectors.specs.Vectors.{IsPair, Values, pair, single}
 
 -- "each period, remainder below it and window no wider than it", within 01's ranges.
 pub record Asked (p r I : ℕ) : Type 0 where
@@ -18,7 +18,7 @@ pub record Asked (p r I : ℕ) : Type 0 where
 
 -- "The step vectors", g being the greatest common divisor of r and p: the pair of the proposition, or where g is no less
 -- than the window the single vector (0, p/g).
-abbrev pub StepVectors : ℕ → ℕ → ℕ → ℕ → Steps → Type 0
-StepVectors p r I g (Pair left right) = IsPair p r I left right
-StepVectors p r I g (Single v) = (I ≤ g) × (v ≡ record { offset = pos 0; line = p / g })
-StepVectors p r I g (Refused n) = ⊥
+abbrev pub StepVectors : ℕ → ℕ → ℕ → ℕ → Said Values → Type 0
+StepVectors p r I g (answered (pair α β γ δ)) = IsPair p r I (vector α β) (vector γ δ)
+StepVectors p r I g (answered (single i j)) = (I ≤ g) × (i ≡ pos 0) × (j ≡ p / g)
+StepVectors p r I g (refused n) = ⊥

@@ -1,7 +1,7 @@
 -- Document 01, "The refusal numbers", as propositions: the rows that each call is judged by, in that call's order.
 use Prim.Native.Nat.{ℕ, zero, suc, _+_, _-_, _*_, _%_, _≤_, _<_}
 use mathlib.Core.Path.{_≡_}
-use mathlib.Core.Logic.{_⊎_, _≢_}
+use mathlib.Core.Logic.{_↔_, _⊎_, _≢_}
 use mathlib.Core.List.{List, [], _∷_, _++_}
 use mathlib.Core.Option.{none}
 use lib.ListN.{length, getD}
@@ -161,3 +161,9 @@ textTable content =
 -- table of its content says.
 abbrev pub SaysOfText : List ℕ → ℕ → Type 0
 SaysOfText text n = ((11 ≡ n) × Reads text none) ⊎ ((content : Content) × Spells text content × Says (textTable content) n)
+
+-- What the refusal of a C function's answer tells: it is n and not 0 exactly when the table says n, and 0 exactly when the table
+-- says no number.
+pub record Tells (Table : ℕ → Type 0) (refusal : ℕ) : Type 0 where
+  pub refuses : (n : ℕ) → ((refusal ≡ n) × (1 ≤ n)) ↔ Table n
+  pub accepts : (refusal ≡ 0) ↔ ((n : ℕ) → Table n → ⊥)

@@ -1,14 +1,15 @@
 -- A row holds if its figure is an outcome of the promise, since no second one fits. Assumes nothing.
-use Prim.Native.Nat.{ℕ, _*_, _%_, min}
+use Prim.Native.Nat.{ℕ, _*_, _%_, _≤_, min}
 use mathlib.Core.Path.{_≡_, refl, sym, ap, subst, subst₂, _∙_}
-use mathlib.Core.Bool.{true, not}
+use mathlib.Core.Bool.{true, false, not}
 use mathlib.Core.List.{List, [], _∷_, map}
 use mathlib.Core.Option.{Option, some, none}
-use native.Mathlib.Nat.{dvd-of-mod-eq-zero, dvd-refl, dvd-zero}
+use native.Mathlib.Nat.{mod-mod, dvd-of-mod-eq-zero, dvd-refl, dvd-zero}
+use native.Mathlib.Decide.{ℕ-discrete}
 use native.Mathlib.Omega.{arith}
 use borrow.Author.Tests.{ne-eqb}
-use lib.Dec.{T, ltb, eqb, lit<, ltb→lt}
-use lib.IntN.{pos, negℤ, natAbs, _-ℤ_, _*ℤ_}
+use lib.Dec.{T as True, leb, ltb, eqb, lit<, ltb→lt}
+use lib.IntN.{ℤ, pos, negℤ, natAbs, _-ℤ_, _*ℤ_}
 use lib.ListN.{length, drop, replicate, drop-of-length-le}
 use lib.Seq.{take-all}
 use lib.Signed.{leZ, ltZ}
@@ -16,39 +17,45 @@ use Rattle.lattice.specs.Gcd.{IsGcd}
 use Rattle.scope.specs.declared.Run.{Run}
 use Rattle.scope.specs.Run.{cellsOf, cellOf}
 use Rattle.scope.specs.Hit.{hitsFrom}
-use Rattle.scope.specs.Refusal.{complaint, runTests}
+use Rattle.scope.specs.Refusal.{Room, _when_, _andThen_, complaint, number, windowTests, lineTests, runTests, periodTests, sourceTests}
 use Rattle.scope.specs.Reply.{Said, refused, answered, reply, stored}
-use Rattle.scope.proofs.Judged.{Passes, sound, both, grant-reply, grant-stored}
-use Rattle.vectors.specs.declared.Vector.{Vector}
-use Rattle.vectors.specs.declared.Steps.{Steps}
-use Rattle.vectors.specs.Vectors.{InLattice, IsPair}
-use Rattle.vectors.specs.Promise.{VectorsPromise}
-use Rattle.vectors.proofs.Theorems.{vectors-unique}
+use Rattle.scope.proofs.Judged.{Passes, broken, sound, then, both, grant-reply, grant-stored, said-answered}
+use Rattle.scope.proofs.Limits.{passes-then}
+use Rattle.scope.proofs.Hits.{hits-remainder}
+use Rattle.vectors.specs.Sequence.{vector}
+use Rattle.vectors.specs.Vectors.{InLattice, IsPair, Values}
+use Rattle.vectors.specs.Promise.{vectorsTests, saysVectors, Admits, VectorsPromise}
+use Rattle.vectors.proofs.Theorems.{said-unique}
 use Rattle.saved.specs.declared.Saved.{Saved}
 use Rattle.saved.specs.declared.Saved.the-variants.{Done as Done·saved, Refused as Refused·saved}
 use Rattle.blocks.specs.Block.{fourAt}
+use Rattle.blocks.proofs.Differs.{agrees, differs, same}
 use Rattle.saved.specs.File.{fileLength, fileOf, savingTests}
 use Rattle.saved.specs.Promise.{saysSaving, SavingPromise}
+use Rattle.saved.proofs.Promises.{refuse-saving, grant-saving}
 use Rattle.map.specs.declared.Added.the-variants.{Done as Done·map}
 use Rattle.map.specs.Map.{MapPromise}
 use Rattle.map.proofs.Promise.{map-unique}
 use Rattle.hits.specs.declared.Listing.{Listing}
 use Rattle.hits.specs.declared.Listing.the-variants.{Done, More, Refused}
-use Rattle.hits.specs.Promise.{firstHitTests, listingTests, first, Listed, saysListing, listed, written, ListingPromise}
-use Rattle.figures.specs.Table.{HitPlace, vectors, hits, mapped, saved, Holds}
+use Rattle.hits.specs.Promise.{firstHitTests, listingTests, first as first-of, Listed, saysListing, listed, written, ListingPromise}
+use Rattle.figures.specs.Table.{HitPlace, run, vectors, hits, mapped, saved, Holds}
 
 -- ---- vectors
 
--- a reply that fits is the only one
-pub vectors-row : (p r I : ℕ) (figure : Steps) → VectorsPromise p r I figure → Holds (vectors p r I figure)
-vectors-row p r I figure h steps = (λ k. vectors-unique p r I steps figure k h, λ e. subst (VectorsPromise p r I) (sym e) h)
+-- what fits is all that may be said
+pub vectors-row : (p r I : ℕ) (figure : Said Values) → Admits (complaint (vectorsTests p r I)) p r I figure → Holds (vectors p r I figure)
+unfolding VectorsPromise
+vectors-row p r I figure h steps =
+    let o = complaint (vectorsTests p r I) in
+    (λ k. said-unique o p r I (saysVectors steps) figure k h, λ e. subst (Admits o p r I) (sym e) h)
 
 -- a pair, by tests that compute
-pub pair : (p r I : ℕ) (left right : Vector) → natAbs (pos (r * left .line) -ℤ left .offset) % p ≡ 0 → natAbs (pos (r * right .line) -ℤ right .offset) % p ≡ 0
-    → T (ltb 0 (left .line)) → T (ltb 0 (right .line)) → T (ltZ (negℤ (pos I)) (left .offset)) → T (leZ (left .offset) (pos 0)) → T (leZ (pos 0) (right .offset)) → T (ltZ (right .offset) (pos I))
-    → T (leZ (pos I) (right .offset -ℤ left .offset)) → (pos (left .line) *ℤ right .offset) -ℤ (left .offset *ℤ pos (right .line)) ≡ pos p → IsPair p r I left right
+pub is-pair : (p r I : ℕ) (α : ℤ) (β : ℕ) (γ : ℤ) (δ : ℕ) → natAbs (pos (r * β) -ℤ α) % p ≡ 0 → natAbs (pos (r * δ) -ℤ γ) % p ≡ 0
+    → True (ltb 0 β) → True (ltb 0 δ) → True (ltZ (negℤ (pos I)) α) → True (leZ α (pos 0)) → True (leZ (pos 0) γ) → True (ltZ γ (pos I))
+    → True (leZ (pos I) (γ -ℤ α)) → (pos β *ℤ γ) -ℤ (α *ℤ pos δ) ≡ pos p → IsPair p r I (vector α β) (vector γ δ)
 unfolding InLattice
-pair p r I left right a b c d e f g h i j = record {
+is-pair p r I α β γ δ a b c d e f g h i j = record {
   left-in = dvd-of-mod-eq-zero p a;
   right-in = dvd-of-mod-eq-zero p b;
   left-rises = lit< c;
@@ -90,49 +97,54 @@ map-pos-same a b e = sym (back a) ∙ ap (map natAbs) e ∙ back b
     back [] = refl
     back (x ∷ xs) = ap (x ∷_) (back xs)
 
-module _ (run : Run) (period : ℕ) (figure : List HitPlace) (cells : List ℕ)
-    (passes : complaint (firstHitTests run (record { period = period }) (record { 0 = 0 })) ≡ none)
-    (are : hitsFrom run (record { period = period }) 0 ≡ cells)
+module _ (p r I first last : ℕ) (figure : List HitPlace) (cells : List ℕ)
+    (window : complaint (windowTests I) ≡ none)
+    (lines : complaint (lineTests first last) ≡ none)
+    (period : complaint (periodTests p) ≡ none)
+    (some-cell : (T : ℕ) → leb (cellsOf (run I T first last)) 0 ≡ false)
+    (are : hitsFrom (run I r first last) (record { period = p }) 0 ≡ cells)
     (many : length cells ≡ length figure)
-    (some : T (ltb 0 (length figure)))
-    (at : map pos cells ≡ map (λ place. cellOf run (place .offset) (place .line)) figure) where
-  granted : (room : List ℕ) → length room ≡ length figure → complaint (listingTests run (record { period = period }) (record { 0 = 0 }) room) ≡ none
-  unfolding listingTests
-  granted room e =
-      let first-tests : Passes (firstHitTests run (record { period = period }) (record { 0 = 0 })) = record { is = passes } in
-      both first-tests (sound (ne-eqb (length room) 0 (λ z. omega (arith, e, z, ltb→lt 0 (length figure) some)))) .is
+    (some : True (ltb 0 (length figure)))
+    (at : (T : ℕ) → map pos cells ≡ map (λ place. cellOf (run I T first last) (place .offset) (place .line)) figure) where
+  -- the hits of every interval with the remainder r, and room for them
+  module _ (T : ℕ) (ticks : 1 ≤ T) (remainder : T % p ≡ r) (room : List ℕ) (e : length room ≡ length figure) where
+    granted : Passes (listingTests (run I T first last) (record { period = p }) (record { 0 = 0 }) room)
+    unfolding listingTests firstHitTests runTests sourceTests
+    granted =
+        both (both (both (both (both (record { is = window }) (record { is = lines })) (sound (ne-eqb T 0 (λ z. omega arith)))) (record { is = period })) (sound (some-cell T)))
+        (sound (ne-eqb (length room) 0 (λ z. omega (arith, ltb→lt 0 (length figure) some))))
 
-  -- the room is just used up
-  whole : (room : List ℕ) → length room ≡ length figure → written cells room ≡ cells
-  unfolding written
-  whole room e =
-      rw (take-all (length room) cells (omega (arith, e, many)), drop-of-length-le room {i = length cells} (omega (arith, e, many)))
-      (mathlib.Core.List.append-nil cells)
+    hit : hitsFrom (run I T first last) (record { period = p }) 0 ≡ cells
+    hit = hits-remainder (run I T first last) (record { period = p }) r (sym (mod-mod T p) ∙ ap (λ n. n % p) remainder) 0 ∙ are
 
-  counted : (room : List ℕ) → length room ≡ length figure → listed cells room ≡ record { count = length figure; next = none }
-  unfolding listed
-  counted room e = λ i. record { count = count i; next = next i }
-    where
-      count : min (length room) (length cells) ≡ length figure
-      count = omega (arith, e, many)
+    -- the room is just used up
+    whole : written cells room ≡ cells
+    unfolding written
+    whole =
+        rw (take-all (length room) cells (omega (arith, e, many)), drop-of-length-le room {i = length cells} (omega (arith, e, many)))
+        (mathlib.Core.List.append-nil cells)
 
-      next : first (drop (length room) cells) ≡ none
-      next = rw (drop-of-length-le cells {i = length room} (omega (arith, e, many)))
+    counted : listed cells room ≡ record { count = length figure; next = none }
+    unfolding listed
+    counted = λ i. record { count = count i; next = next i }
+      where
+        count : min (length room) (length cells) ≡ length figure
+        count = omega (arith, e, many)
 
-  pub hits-row : Holds (hits run period figure)
-  hits-row room e r after = (to, from)
-    where
-      said : reply (complaint (listingTests run (record { period = period }) (record { 0 = 0 }) room)) (listed (hitsFrom run (record { period = period }) 0) room) ≡ saysListing (Done (length figure))
-      said = rw (granted room e, are, counted room e)
+        next : first-of (drop (length room) cells) ≡ none
+        next = rw (drop-of-length-le cells {i = length room} (omega (arith, e, many)))
 
-      held : stored (complaint (listingTests run (record { period = period }) (record { 0 = 0 }) room)) room (written (hitsFrom run (record { period = period }) 0) room) ≡ cells
-      held = rw (granted room e, are, whole room e)
+    said : reply (complaint (listingTests (run I T first last) (record { period = p }) (record { 0 = 0 }) room)) (listed (hitsFrom (run I T first last) (record { period = p }) 0) room) ≡ saysListing (Done (length figure))
+    said = rw (granted .is, hit, counted)
 
-      to : ListingPromise run (record { period = period }) (record { 0 = 0 }) room r after → (r ≡ Done (length figure)) × (map pos after ≡ map (λ place. cellOf run (place .offset) (place .line)) figure)
-      to h = (says-done (length figure) r (h .says ∙ said), ap (map pos) (h .stores ∙ held) ∙ at)
+    held : stored (complaint (listingTests (run I T first last) (record { period = p }) (record { 0 = 0 }) room)) room (written (hitsFrom (run I T first last) (record { period = p }) 0) room) ≡ cells
+    held = rw (granted .is, hit, whole)
 
-      from : (r ≡ Done (length figure)) × (map pos after ≡ map (λ place. cellOf run (place .offset) (place .line)) figure) → ListingPromise run (record { period = period }) (record { 0 = 0 }) room r after
-      from h = record { says = ap saysListing (h .0) ∙ sym said; stores = map-pos-same after cells (h .1 ∙ sym at) ∙ sym held }
+  pub hits-row : Holds (hits p r I first last figure)
+  hits-row T ticks remainder room e reply after = (
+    λ h. (says-done (length figure) reply (h .says ∙ said T ticks remainder room e), ap (map pos) (h .stores ∙ held T ticks remainder room e) ∙ at T),
+    λ h. record { says = ap saysListing (h .0) ∙ sym (said T ticks remainder room e); stores = map-pos-same after cells (h .1 ∙ sym (at T)) ∙ sym (held T ticks remainder room e) },
+  )
 
 -- ---- maps
 
@@ -147,16 +159,40 @@ saved-done : (answer : Saved) → saysSaving answer ≡ answered tt → answer �
 saved-done Done·saved e = refl
 saved-done (Refused·saved n) e = cc
 
--- every admitted file is the one that the layout gives
-pub saved-row : (run : Run) (cells : List ℕ) (size first second : ℕ) → complaint (runTests run) ≡ none → eqb (length cells) (cellsOf run) ≡ true → eqb size (fileLength (cellsOf run)) ≡ true
-    → length (fileOf run cells) ≡ size → fourAt (fileOf run cells) 508 ≡ first → fourAt (fileOf run cells) 1020 ≡ second → Holds (saved run cells size first second)
-unfolding savingTests
-saved-row run cells size first second passes whole room long a b file e = (only, (fileOf run cells, record { says = grant-reply tt tests; stores = grant-stored file (fileOf run cells) tests }))
-  where
-    tests : Passes (savingTests run cells file)
-    tests = both (both (record { is = passes }) (sound (ap not whole))) (sound (rw e (ap not room)))
+-- the room's length is the one test left, and every admitted file is the one that the layout gives
+module _ (run : Run) (cells : List ℕ) (size first second : ℕ)
+    (passes : complaint (runTests run) ≡ none)
+    (whole : eqb (length cells) (cellsOf run) ≡ true)
+    (room-size : size ≡ fileLength (cellsOf run))
+    (long : length (fileOf run cells) ≡ size)
+    (a : fourAt (fileOf run cells) 508 ≡ first)
+    (b : fourAt (fileOf run cells) 1020 ≡ second) where
+  begun : (room : List ℕ) → Passes (runTests run andThen Room when not (eqb (length cells) (cellsOf run)))
+  begun room = both (record { is = passes }) (sound (ap not whole))
 
-    only : (answer : Saved) (after : List ℕ) → SavingPromise run cells file answer after → (answer ≡ Done·saved) × (length after ≡ size) × (fourAt after 508 ≡ first) × (fourAt after 1020 ≡ second)
-    only answer after h =
-        let is : after ≡ fileOf run cells = h .stores ∙ sym (grant-stored file (fileOf run cells) tests) in
-        (saved-done answer (h .says ∙ sym (grant-reply tt tests)), ap length is ∙ long, ap (λ f. fourAt f 508) is ∙ a, ap (λ f. fourAt f 1020) is ∙ b)
+  granted-room : (room : List ℕ) → length room ≡ size → Passes (savingTests run cells room)
+  unfolding savingTests
+  granted-room room e = both (begun room) (sound (agrees refl refl (e ∙ room-size)))
+
+  sized : (room : List ℕ) → Passes (savingTests run cells room) → length room ≡ size
+  unfolding savingTests
+  sized room tests = same _ _ (passes-then tests) ∙ sym room-size
+
+  exists : (room : List ℕ) → Dec (length room ≡ size) → (answer : Saved) × (after : List ℕ) × SavingPromise run cells room answer after
+  unfolding savingTests
+  exists room (yes e) = (Done·saved, fileOf run cells, grant-saving (granted-room room e) refl)
+  exists room (no n) = (Refused·saved (number Room), room, refuse-saving (then (begun room) (broken (differs refl refl (λ e. n (e ∙ sym room-size))))))
+
+  pub saved-row : Holds (saved run cells size first second)
+  saved-row room = (λ answer after h. ((to answer after h, from answer after h), holds answer after h), exists room (ℕ-discrete (length room) size))
+    where
+      to : (answer : Saved) (after : List ℕ) → SavingPromise run cells room answer after → answer ≡ Done·saved → length room ≡ size
+      to answer after h e = sized room (said-answered (savingTests run cells room) (sym (ap saysSaving e) ∙ h .says) .0)
+
+      from : (answer : Saved) (after : List ℕ) → SavingPromise run cells room answer after → length room ≡ size → answer ≡ Done·saved
+      from answer after h e = saved-done answer (h .says ∙ sym (grant-reply tt (granted-room room e)))
+
+      holds : (answer : Saved) (after : List ℕ) → SavingPromise run cells room answer after → answer ≡ Done·saved → (length after ≡ size) × (fourAt after 508 ≡ first) × (fourAt after 1020 ≡ second)
+      holds answer after h e =
+          let is : after ≡ fileOf run cells = h .stores ∙ sym (grant-stored room (fileOf run cells) (granted-room room (to answer after h e))) in
+          (ap length is ∙ long, ap (λ f. fourAt f 508) is ∙ a, ap (λ f. fourAt f 1020) is ∙ b)

@@ -5,64 +5,48 @@ use mathlib.Core.Logic.{_⊎_, inl, inr}
 use mathlib.Core.List.{List, [], _∷_, List·Memᴰ, List·Memᴰ·not-nil, List·Memᴰ·cases-cons}
 use Rattle.scope.specs.Run.{linesOf, cellsOf, cellOf, lineOf, offsetOf}
 use Rattle.scope.specs.Hit.{instant, isHit, hitsAmong, hitsFrom}
-use Rattle.scope.specs.Refusal.{complaint, number, windowTests, lineTests, periodTests, weightTests, runTests, sourceTests}
+use Rattle.scope.specs.Refusal.{complaint, number, windowTests, lineTests, periodTests, weightTests, runTests}
 use Rattle.sources.specs.Entry.{entriesOf, entryTests, listTests}
 use Rattle.map.specs.Sum.{raised}
 use Rattle.map.specs.Map.{mapTests, weightAt, added}
-use Rattle.vectors.specs.Promise.{VectorsPromise, vectorsTests}
+use Rattle.vectors.specs.Promise.{vectorsTests}
 use Rattle.blocks.specs.Block.{four, fourAt, weighted, checkOf, filled, sealed, blockOf}
 use Rattle.saved.specs.File.{heading, firstJoined, cellBlocks, blocksFor, fileLength, fileOf}
-use Rattle.hits.specs.Promise.{firstHitTests}
-use Rattle.figures.specs.Table.{Figure, hits, mapped, saved, Holds, lines-1-11, hits-1-11, example, exampleMap, table}
-use Rattle.figures.proofs.Rows.{vectors-row, pair, gcd-divisor, gcd-zero, hits-row, map-row, saved-row}
+use Rattle.figures.specs.Table.{Figure, hits, mapped, saved, Holds, run, hits-1-11, example, exampleMap, table}
+use Rattle.figures.proofs.Rows.{vectors-row, is-pair, gcd-divisor, gcd-zero, hits-row, map-row, saved-row}
 
 -- every row of a list holds
 abbrev All : List Figure → Type 0
 All [] = Unit {0}
 All (figure ∷ figures) = Holds figure × All figures
 
--- the listing, by computing the list of hits
-listed : Holds (hits lines-1-11 11 hits-1-11)
-unfolding firstHitTests runTests windowTests lineTests sourceTests periodTests complaint number hitsFrom hitsAmong isHit instant lineOf offsetOf cellOf cellsOf linesOf
-listed = hits-row lines-1-11 11 hits-1-11 (hitsFrom lines-1-11 (record { period = 11 }) 0) refl refl refl tt refl
-
--- the map of 01's example, by computing its cells
-example-holds : Holds (mapped example (7 ∷ 3 ∷ []) (60 ∷ 200 ∷ []) exampleMap)
-unfolding mapTests runTests windowTests lineTests periodTests weightTests entryTests listTests entriesOf complaint added raised weightAt isHit instant lineOf offsetOf cellsOf linesOf
-example-holds = map-row example (7 ∷ 3 ∷ []) (60 ∷ 200 ∷ []) exampleMap (record { says = refl; stores = refl })
-
--- its file, by computing the bytes
-saved-holds : Holds (saved example exampleMap 1024 294 22327)
-unfolding runTests windowTests lineTests complaint cellsOf linesOf fileLength blocksFor fileOf heading cellBlocks firstJoined blockOf sealed filled four fourAt checkOf weighted
-saved-holds = saved-row example exampleMap 1024 294 22327 refl refl refl refl refl refl
-
--- each row, by computing its conditions
+-- each row, by computing its conditions: the tests, the divisions, the list of hits, the cells of the map, the bytes of the file
 rows : All table
-unfolding VectorsPromise vectorsTests windowTests periodTests complaint number
+unfolding vectorsTests mapTests runTests windowTests lineTests periodTests weightTests entryTests listTests entriesOf complaint number hitsFrom hitsAmong added raised weightAt isHit instant lineOf offsetOf cellOf cellsOf linesOf fileLength blocksFor fileOf heading cellBlocks firstJoined blockOf sealed filled four fourAt checkOf weighted
 rows = (
-  vectors-row 7 3 4 _ (pair 7 3 4 _ _ refl refl tt tt tt tt tt tt tt refl),
+  vectors-row 7 3 4 _ (is-pair 7 3 4 _ _ _ _ refl refl tt tt tt tt tt tt tt refl),
   (
-    vectors-row 7 5 4 _ (pair 7 5 4 _ _ refl refl tt tt tt tt tt tt tt refl),
+    vectors-row 7 5 4 _ (is-pair 7 5 4 _ _ _ _ refl refl tt tt tt tt tt tt tt refl),
     (
-      vectors-row 11 4 6 _ (pair 11 4 6 _ _ refl refl tt tt tt tt tt tt tt refl),
+      vectors-row 11 4 6 _ (is-pair 11 4 6 _ _ _ _ refl refl tt tt tt tt tt tt tt refl),
       (
-        listed,
+        hits-row 11 _ 6 1 11 hits-1-11 _ refl refl refl (λ T. refl) refl refl tt (λ T. refl),
         (
-          vectors-row 4 1 4 _ (pair 4 1 4 _ _ refl refl tt tt tt tt tt tt tt refl),
+          vectors-row 4 1 4 _ (is-pair 4 1 4 _ _ _ _ refl refl tt tt tt tt tt tt tt refl),
           (
             vectors-row 4 1 6 _ refl,
             (
               vectors-row 12 6 6 _ (record { g = 6; is-gcd = gcd-divisor 6 12 refl; wide = omega arith; at-zero = refl; rises = refl }),
               (
-                vectors-row 12 6 8 _ (pair 12 6 8 _ _ refl refl tt tt tt tt tt tt tt refl),
+                vectors-row 12 6 8 _ (is-pair 12 6 8 _ _ _ _ refl refl tt tt tt tt tt tt tt refl),
                 (
                   vectors-row 9 0 4 _ (record { g = 9; is-gcd = gcd-zero 9; wide = omega arith; at-zero = refl; rises = refl }),
                   (
-                    vectors-row 2 1 2 _ (pair 2 1 2 _ _ refl refl tt tt tt tt tt tt tt refl),
+                    vectors-row 2 1 2 _ (is-pair 2 1 2 _ _ _ _ refl refl tt tt tt tt tt tt tt refl),
                     (
-                      example-holds,
+                      map-row example _ _ _ (record { says = refl; stores = refl }),
                       (
-                        saved-holds,
+                        saved-row example exampleMap _ _ _ refl refl refl refl refl refl,
                         tt,
                       ),
                     ),

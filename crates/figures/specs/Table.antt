@@ -1,5 +1,5 @@
 -- Document 01, "Bench figures": the starred ones, as they stand there, and what it is for a figure to hold.
-use Prim.Native.Nat.{ℕ}
+use Prim.Native.Nat.{ℕ, _%_, _≤_}
 use mathlib.Core.Path.{_≡_}
 use mathlib.Core.List.{List, [], _∷_, map}
 use mathlib.Core.Logic.{_↔_}
@@ -7,10 +7,10 @@ use lib.IntN.{ℤ, pos}
 use lib.ListN.{length, replicate}
 use Rattle.scope.specs.declared.Run.{Run}
 use Rattle.scope.specs.Run.{cellOf}
+use Rattle.scope.specs.Reply.{Said, refused, answered}
 use Rattle.vectors.specs.declared.Steps.{Steps}
-use Rattle.vectors.specs.declared.Steps.the-variants.{Pair, Single, Refused}
-use Rattle.vectors.specs.Sequence.{vector}
-use Rattle.vectors.specs.Promise.{VectorsPromise}
+use Rattle.vectors.specs.Vectors.{Values, pair, single}
+use Rattle.vectors.specs.Promise.{saysVectors, VectorsPromise}
 use Rattle.map.specs.declared.Added.{Added}
 use Rattle.map.specs.declared.Added.the-variants.{Done as Done·map}
 use Rattle.map.specs.Map.{MapPromise}
@@ -27,32 +27,38 @@ pub record HitPlace : Type 0 where
   pub offset : ℤ
   pub line : ℕ
 
+-- "run I T first last".
+abbrev pub run : (I T first last : ℕ) → Run
+run I T first last = record { window = I; interval = T; first = first; last = last }
+
 -- A row of the table.
 pub data Figure : Type 0 where
   -- "p, r, I: reply"
-  vectors : (p r I : ℕ) → Steps → Figure
-  -- "Hits on lines 1-11 as offset, line": of a run and a period
-  hits : Run → ℕ → List HitPlace → Figure
+  vectors : (p r I : ℕ) → Said Values → Figure
+  -- "p, r, I .. Hits on lines 1-11 as offset, line": of a period, a remainder, a window, and the first and last line
+  hits : (p r I first last : ℕ) → List HitPlace → Figure
   -- "The map above": of a run, the periods and weights listed, and the cells of the map, which was clear before
   mapped : Run → (periods weights cells : List ℕ) → Figure
   -- "saved, it is 1,024 bytes with checks 294 and 22,327": of a run and its map, the length and the checks of the two blocks
   saved : Run → (cells : List ℕ) → (size first second : ℕ) → Figure
 
--- A figure holds if the promise at the row's inputs admits an outcome exactly if it is the row's figure.
+-- A figure holds if the promise at the row's inputs admits an outcome exactly if it is the row's figure. The hits are those of
+-- every interval T with T mod p = r. A map is saved exactly if the room has the row's length, and some outcome is admitted.
 abbrev pub Holds : Figure → Type 0
-Holds (vectors p r I figure) = (steps : Steps) → VectorsPromise p r I steps ↔ (steps ≡ figure)
-Holds (hits run period figure) =
-    (room : List ℕ) → length room ≡ length figure → (reply : Listing) (after : List ℕ) →
-    ListingPromise run (record { period = period }) (record { 0 = 0 }) room reply after ↔
-    ((reply ≡ Done (length figure)) × (map pos after ≡ map (λ place. cellOf run (place .offset) (place .line)) figure))
+Holds (vectors p r I figure) = (steps : Steps) → VectorsPromise p r I steps ↔ (saysVectors steps ≡ figure)
+Holds (hits p r I first last figure) =
+    (T : ℕ) → 1 ≤ T → T % p ≡ r → (room : List ℕ) → length room ≡ length figure → (reply : Listing) (after : List ℕ) →
+    ListingPromise (run I T first last) (record { period = p }) (record { 0 = 0 }) room reply after ↔
+    ((reply ≡ Done (length figure)) × (map pos after ≡ map (λ place. cellOf (run I T first last) (place .offset) (place .line)) figure))
 Holds (mapped run periods weights figure) =
     (answer : Added) (after : List ℕ) →
     MapPromise run periods weights (replicate (length figure) 0) answer after ↔ ((answer ≡ Done·map) × (after ≡ figure))
 Holds (saved run cells size first second) =
-    (file : List ℕ) → length file ≡ size →
-    ((answer : Saved) (after : List ℕ) → SavingPromise run cells file answer after →
-    (answer ≡ Done·saved) × (length after ≡ size) × (fourAt after 508 ≡ first) × (fourAt after 1020 ≡ second)) ×
-    ((after : List ℕ) × SavingPromise run cells file Done·saved after)
+    (room : List ℕ) →
+    ((answer : Saved) (after : List ℕ) → SavingPromise run cells room answer after →
+    ((answer ≡ Done·saved) ↔ (length room ≡ size)) ×
+    (answer ≡ Done·saved → (length after ≡ size) × (fourAt after 508 ≡ first) × (fourAt after 1020 ≡ second))) ×
+    ((answer : Saved) × (after : List ℕ) × SavingPromise run cells room answer after)
 
 -- An offset below 0, as in -3.
 abbrev pub minus : ℕ → ℤ
@@ -62,17 +68,13 @@ minus n = lib.IntN.negℤ (pos n)
 abbrev pub place : ℤ → ℕ → HitPlace
 place offset line = record { offset = offset; line = line }
 
--- "p 11, r 4, I 6 .. lines 1-11", with an interval whose remainder is 4.
-abbrev pub lines-1-11 : Run
-lines-1-11 = record { window = 6; interval = 4; first = 1; last = 11 }
-
 -- "(-3,2) (1,3) (-2,5) (2,6) (-1,8) (0,11)".
 abbrev pub hits-1-11 : List HitPlace
 hits-1-11 = place (minus 3) 2 ∷ place (pos 1) 3 ∷ place (minus 2) 5 ∷ place (pos 2) 6 ∷ place (minus 1) 8 ∷ place (pos 0) 11 ∷ []
 
 -- "run 4 10 1 5".
 abbrev pub example : Run
-example = record { window = 4; interval = 10; first = 1; last = 5 }
+example = run 4 10 1 5
 
 -- "map 0 200, map 3 200, map 5 255, map 10 200, map 12 255, map 15 200, map 17 200, map 19 60", the other cells being 0.
 abbrev pub exampleMap : List ℕ
@@ -81,16 +83,16 @@ exampleMap = 200 ∷ 0 ∷ 0 ∷ 200 ∷ 0 ∷ 255 ∷ 0 ∷ 0 ∷ 0 ∷ 0 ∷ 2
 -- "Marked * are proved."
 abbrev pub table : List Figure
 table =
-    vectors 7 3 4 (Pair (vector (minus 1) 2) (vector (pos 3) 1)) ∷
-    vectors 7 5 4 (Pair (vector (minus 2) 1) (vector (pos 3) 2)) ∷
-    vectors 11 4 6 (Pair (vector (minus 3) 2) (vector (pos 4) 1)) ∷
-    hits lines-1-11 11 hits-1-11 ∷
-    vectors 4 1 4 (Pair (vector (minus 3) 1) (vector (pos 1) 1)) ∷
-    vectors 4 1 6 (Refused 6) ∷
-    vectors 12 6 6 (Single (vector (pos 0) 2)) ∷
-    vectors 12 6 8 (Pair (vector (minus 6) 1) (vector (pos 6) 1)) ∷
-    vectors 9 0 4 (Single (vector (pos 0) 1)) ∷
-    vectors 2 1 2 (Pair (vector (minus 1) 1) (vector (pos 1) 1)) ∷
+    vectors 7 3 4 (answered (pair (minus 1) 2 (pos 3) 1)) ∷
+    vectors 7 5 4 (answered (pair (minus 2) 1 (pos 3) 2)) ∷
+    vectors 11 4 6 (answered (pair (minus 3) 2 (pos 4) 1)) ∷
+    hits 11 4 6 1 11 hits-1-11 ∷
+    vectors 4 1 4 (answered (pair (minus 3) 1 (pos 1) 1)) ∷
+    vectors 4 1 6 (refused 6) ∷
+    vectors 12 6 6 (answered (single (pos 0) 2)) ∷
+    vectors 12 6 8 (answered (pair (minus 6) 1 (pos 6) 1)) ∷
+    vectors 9 0 4 (answered (single (pos 0) 1)) ∷
+    vectors 2 1 2 (answered (pair (minus 1) 1 (pos 1) 1)) ∷
     mapped example (7 ∷ 3 ∷ []) (60 ∷ 200 ∷ []) exampleMap ∷
     saved example exampleMap 1024 294 22327 ∷
     []

@@ -2,20 +2,20 @@
 -- line j exactly if d and T·j + I/2 have one remainder by the period (`On`); whoever walks uses the laws of `On` alone.
 -- Then the list of hits: how it goes on from a cell, what it holds, and what blocks make of it. Assumes nothing.
 use Prim.Native.Nat.{ℕ, zero, suc, _+_, _-_, _*_, _/_, _%_, _≤_, _<_}
-use native.Mathlib.Nat.{mod-lt, mod-mod, add-mod-right, div-add-mod', mul-le-mul-right, add-zero, zero-add, suc-add}
+use native.Mathlib.Nat.{mod-lt, mod-mod, add-mod-right, div-add-mod', mod-add-div', mul-le-mul-right, add-zero, zero-add, suc-add}
 use native.Mathlib.Decide.{decLt}
 use native.Mathlib.Omega.{arith}
 use mathlib.Core.Path.{_≡_, refl, sym, ap, _∙_}
-use mathlib.Core.Logic.{_↔_, _⊎_, inl, inr}
+use mathlib.Core.Logic.{_↔_, Iff·trans, _⊎_, inl, inr}
 use mathlib.Core.Bool.{Bool, true, false, cond, true≢false}
 use mathlib.Core.List.{List, [], _∷_, _++_, map, List·Memᴰ, List·Memᴰ·head, List·Memᴰ·tail, List·Memᴰ·not-nil, List·Memᴰ·cases-cons}
 use lib.ListN.{length}
 use lib.IntN.{ℤ, pos, _+ℤ_}
 use Rattle.signed.proofs.Parts.{parts, sum}
-use Rattle.signed.proofs.Divides.{divides-apart, divides-test}
+use Rattle.signed.proofs.Divides.{divides-apart, divides-test, multiples-mod}
 use Rattle.scope.specs.declared.Run.{Run}
 use Rattle.scope.specs.declared.Source.{Source}
-use Rattle.scope.specs.Run.{Valid, cellsOf, lineOf, offsetOf, shiftOf}
+use Rattle.scope.specs.Run.{Valid, linesOf, cellsOf, lineOf, offsetOf, shiftOf}
 use Rattle.scope.specs.Hit.{instant, Hits, isHit, hitsAmong, hitsFrom}
 use Rattle.scope.proofs.Limits.{of-cond}
 use Rattle.scope.proofs.Numbering.{offset-distance, cell-parts, IsBlock, line-shift, offset-shift}
@@ -67,6 +67,12 @@ miss-on run source x = (λ e n. true≢false (sym (hit-on run source x .1 n) ∙
     go : (isHit run source x ≡ true) ⊎ (isHit run source x ≡ false) → (On run source (x % run .window) (lineOf run x) → ⊥) → isHit run source x ≡ false
     go (inl h) f = absurd (f (hit-on run source x .0 h))
     go (inr m) f = m
+
+-- two tests that are true together are one
+same-test : (a b : Bool) → (a ≡ true) ↔ (b ≡ true) → a ≡ b
+same-test true b e = sym (e .0 refl)
+same-test false true e = e .1 refl
+same-test false false e = refl
 
 -- on each line the remainder is hit; whole periods do not matter; after a hit the next is a period on or later
 pub on-first : (run : Run) (source : Source) (j : ℕ) → On run source ((run .interval * j + origin run source) % source .period) j
@@ -257,6 +263,41 @@ hits-shift {run} {block} v b source x (suc n) =
 pub hits-block : {run block : Run} → Valid run → IsBlock run block → (source : Source) (x : ℕ) → map (λ z. z + shiftOf run block) (hitsFrom block source x) ≡ hitsAmong run source (x + shiftOf run block) (cellsOf block - x)
 unfolding hitsFrom
 hits-block {run} {block} v b source x = hits-shift v b source x (cellsOf block - x)
+
+-- ---- "With r = T mod p": of the interval the remainder by the period matters, and nothing else
+
+-- the run with another interval
+abbrev pub withInterval : Run → ℕ → Run
+withInterval run r = record { window = run .window; interval = r; first = run .first; last = run .last }
+
+module _ (run : Run) (source : Source) (r : ℕ) (same : run .interval % source .period ≡ r % source .period) where
+  ticks-remainder : (j o : ℕ) → (run .interval * j + o) % source .period ≡ (r * j + o) % source .period
+  ticks-remainder j o =
+      let T = run .interval in
+      let p = source .period in
+      let e : T + r / p * p ≡ r + T / p * p = omega (arith, mod-add-div' T p, mod-add-div' r p) in
+      multiples-mod p (T * j + o) (r * j + o) .0 (r / p * j, T / p * j, omega (arith, ap (λ n. n * j) e))
+
+  on-remainder : (d j : ℕ) → On run source d j ↔ On (withInterval run r) source d j
+  unfolding On
+  on-remainder d j = rw (ticks-remainder j (run .window / 2)) (λ o. o, λ o. o)
+
+  hit-remainder : (x : ℕ) → isHit run source x ≡ isHit (withInterval run r) source x
+  unfolding lineOf
+  hit-remainder x = same-test _ _ (Iff·trans (hit-on run source x) (Iff·trans (on-remainder (x % run .window) (lineOf run x)) (back .1, back .0)))
+    where
+      back : (isHit (withInterval run r) source x ≡ true) ↔ On (withInterval run r) source (x % run .window) (lineOf run x)
+      back = hit-on (withInterval run r) source x
+
+  among-remainder : (x n : ℕ) → hitsAmong run source x n ≡ hitsAmong (withInterval run r) source x n
+  unfolding hitsAmong
+  among-remainder x zero = refl
+  among-remainder x (suc n) = rw (hit-remainder x, among-remainder (suc x) n)
+
+  -- runs whose intervals have one remainder by the period have the same hits
+  pub hits-remainder : (x : ℕ) → hitsFrom run source x ≡ hitsFrom (withInterval run r) source x
+  unfolding hitsFrom cellsOf linesOf
+  hits-remainder x = among-remainder x (cellsOf run - x)
 
 -- ---- a rising list is told by its members
 

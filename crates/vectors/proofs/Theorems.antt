@@ -15,12 +15,10 @@ use Rattle.scope.proofs.Limits.{passes-when, passes-first, passes-then, valid-w
 use Rattle.scope.specs.Refusal.{Complaint, complaint, number}
 use Rattle.scope.specs.Reply.{Said, refused, answered}
 use Rattle.vectors.specs.declared.Vector.{Vector}
-use Rattle.vectors.specs.declared.Basis.{Basis}
-use Rattle.vectors.specs.declared.Basis.the-variants.{Two, One}
 use Rattle.vectors.specs.declared.Steps.{Steps}
 use Rattle.vectors.specs.declared.Steps.the-variants as reply
-use Rattle.vectors.specs.Vectors.{IsPair, APair, IsSingle}
-use Rattle.vectors.specs.Promise.{Spans, saysVectors, Admits, VectorsPromise, vectorsTests}
+use Rattle.vectors.specs.Vectors.{IsPair, APair, IsSingle, Values, pair, single}
+use Rattle.vectors.specs.Promise.{saysVectors, Admits, VectorsPromise, vectorsTests}
 use Rattle.vectors.proofs.Bridge.{leftward, rightward, magnitudes, from-magnitudes}
 
 -- "At most one such pair exists."
@@ -48,12 +46,17 @@ no-pair-exactly-when low fits is =
     let e = pair-exactly-when low fits is in
     (λ h. let k : _ < _ → ⊥ = λ l. h (e .1 l) in omega (arith, k), λ h k. let l = e .0 k in omega arith)
 
+-- equal vectors have equal numbers, and the other way round
+numbers : {v w : Vector} → v ≡ w → (v .offset ≡ w .offset) × (v .line ≡ w .line)
+numbers e = (ap (λ v. v .offset) e, ap (λ v. v .line) e)
+
+same : {v w : Vector} → v .offset ≡ w .offset → v .line ≡ w .line → v ≡ w
+same e f = λ i. record { offset = e i; line = f i }
+
 -- a single vector is one alone
 single-unique : {p r I : ℕ} {v v′ : Vector} → IsSingle p r I v → IsSingle p r I v′ → v ≡ v′
 single-unique {p} {r} {I} {v} {v′} h h′ =
-    let e : v .offset ≡ v′ .offset = h .at-zero ∙ sym (h′ .at-zero) in
-    let l : v .line ≡ v′ .line = h .rises ∙ ap (λ g. p / g) (gcd-unique (h .is-gcd) (h′ .is-gcd)) ∙ sym (h′ .rises) in
-    λ i. record { offset = e i; line = l i }
+    same (h .at-zero ∙ sym (h′ .at-zero)) (h .rises ∙ ap (λ g. p / g) (gcd-unique (h .is-gcd) (h′ .is-gcd)) ∙ sym (h′ .rises))
 
 -- a pair and a single vector never answer the same call
 never-both : {p r I : ℕ} {l g v : Vector} → IsPair p r I l g → IsSingle p r I v → ⊥
@@ -62,26 +65,27 @@ never-both h s =
     let wide = s .wide in
     omega arith
 
-basis-unique : (p r I : ℕ) (a b : Basis) → Spans p r I a → Spans p r I b → a ≡ b
-basis-unique p r I (Two l g) (Two l′ g′) h h′ = let e = pair-unique h h′ in ap₂ Two (e .0) (e .1)
-basis-unique p r I (Two l g) (One v) h h′ = absurd (never-both h h′)
-basis-unique p r I (One v) (Two l g) h h′ = absurd (never-both h′ h)
-basis-unique p r I (One v) (One v′) h h′ = ap One (single-unique h h′)
-
-said-unique : (o : Option Complaint) (p r I : ℕ) (a b : Said Basis) → Admits o p r I a → Admits o p r I b → a ≡ b
+-- one answer alone fits a complaint, or none
+pub said-unique : (o : Option Complaint) (p r I : ℕ) (a b : Said Values) → Admits o p r I a → Admits o p r I b → a ≡ b
 said-unique (some c) p r I a b h h′ = h ∙ sym h′
-said-unique none p r I (answered a) (answered b) h h′ = ap answered (basis-unique p r I a b h h′)
+said-unique none p r I (answered (pair α β γ δ)) (answered (pair α′ β′ γ′ δ′)) h h′ =
+    let e = pair-unique h h′ in
+    let l = numbers (e .0) in
+    let g = numbers (e .1) in
+    cc
+said-unique none p r I (answered (pair α β γ δ)) (answered (single i j)) h h′ = absurd (never-both h h′)
+said-unique none p r I (answered (single i j)) (answered (pair α β γ δ)) h h′ = absurd (never-both h′ h)
+said-unique none p r I (answered (single i j)) (answered (single i′ j′)) h h′ = let e = numbers (single-unique h h′) in cc
 said-unique none p r I (answered a) (refused n) h h′ = absurd h′
-said-unique none p r I (refused n) (answered b) h h′ = absurd h
-said-unique none p r I (refused n) (refused m) h h′ = absurd h
+said-unique none p r I (refused n) b h h′ = absurd h
 
 -- what is said is the reply
 says-vectors-injective : (a b : Steps) → saysVectors a ≡ saysVectors b → a ≡ b
-says-vectors-injective (reply.Pair l g) (reply.Pair l′ g′) e = cc
+says-vectors-injective (reply.Pair l g) (reply.Pair l′ g′) e = ap₂ reply.Pair (same (cc) (cc)) (same (cc) (cc))
 says-vectors-injective (reply.Pair l g) (reply.Single v) e = cc
 says-vectors-injective (reply.Pair l g) (reply.Refused n) e = cc
 says-vectors-injective (reply.Single v) (reply.Pair l g) e = cc
-says-vectors-injective (reply.Single v) (reply.Single v′) e = cc
+says-vectors-injective (reply.Single v) (reply.Single v′) e = ap reply.Single (same (cc) (cc))
 says-vectors-injective (reply.Single v) (reply.Refused n) e = cc
 says-vectors-injective (reply.Refused n) (reply.Pair l g) e = cc
 says-vectors-injective (reply.Refused n) (reply.Single v) e = cc
@@ -92,22 +96,18 @@ pub vectors-unique : (p r I : ℕ) (a b : Steps) → VectorsPromise p r I a → 
 unfolding VectorsPromise
 vectors-unique p r I a b h h′ = says-vectors-injective a b (said-unique (complaint (vectorsTests p r I)) p r I (saysVectors a) (saysVectors b) h h′)
 
--- where there is no complaint some basis answers
-basis-exists : (p r I : ℕ) → r < p → 1 ≤ I → I ≤ p → (basis : Basis) × Spans p r I basis
-basis-exists p r I low narrow fits = ⊎-elim (λ h. let q = some-pair .1 h in (Two (q .left) (q .right), q .is-pair)) (λ h. alone h) (reached-cases (reach low narrow fits))
+-- where there is no complaint a pair or a single vector answers
+answer-exists : (p r I : ℕ) → r < p → 1 ≤ I → I ≤ p → (steps : Steps) × Admits none p r I (saysVectors steps)
+answer-exists p r I low narrow fits = ⊎-elim (λ h. let q = some-pair .1 h in (reply.Pair (q .left) (q .right), q .is-pair)) (λ h. alone h) (reached-cases (reach low narrow fits))
   where
-    alone : (g : ℕ) × IsGcd g r p × (I ≤ g) → (basis : Basis) × Spans p r I basis
-    alone h = (One (record { offset = pos 0; line = p / h .0 }), record { g = h .0; is-gcd = h .1; wide = h .2; at-zero = refl; rises = refl })
+    alone : (g : ℕ) × IsGcd g r p × (I ≤ g) → (steps : Steps) × Admits none p r I (saysVectors steps)
+    alone h = (reply.Single (record { offset = pos 0; line = p / h .0 }), record { g = h .0; is-gcd = h .1; wide = h .2; at-zero = refl; rises = refl })
 
 -- And one does.
 pub vectors-exists : (p r I : ℕ) → (steps : Steps) × VectorsPromise p r I steps
 unfolding VectorsPromise vectorsTests
 vectors-exists p r I = go (complaint (vectorsTests p r I)) refl
   where
-    said : (basis : Basis) × Spans p r I basis → (steps : Steps) × Admits none p r I (saysVectors steps)
-    said (Two l g, h) = (reply.Pair l g, h)
-    said (One v, h) = (reply.Single v, h)
-
     go : (o : Option Complaint) → complaint (vectorsTests p r I) ≡ o → (steps : Steps) × Admits o p r I (saysVectors steps)
     go (some c) e = (reply.Refused (number (c .reason)), refl)
     go none e =
@@ -115,4 +115,4 @@ vectors-exists p r I = go (complaint (vectorsTests p r I)) refl
         let low = leb-false p r (passes-when (passes-then (passes-first passed))) in
         let fits = ltb-false p I (passes-when (passes-then passed)) in
         let window = valid-window (passes-first (passes-first (passes-first passed))) in
-        said (basis-exists p r I low (omega arith) fits)
+        answer-exists p r I low (omega arith) fits

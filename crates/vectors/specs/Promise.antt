@@ -9,7 +9,8 @@ use Rattle.vectors.specs.declared.Basis.{Basis}
 use Rattle.vectors.specs.declared.Basis.the-variants.{Two, One}
 use Rattle.vectors.specs.declared.Steps.{Steps}
 use Rattle.vectors.specs.declared.Steps.the-variants.{Pair, Single, Refused}
-use Rattle.vectors.specs.Vectors.{IsPair, IsSingle}
+use Rattle.vectors.specs.Vectors.{IsPair, IsSingle, Values, pair, single}
+use Rattle.vectors.specs.Sequence.{vector}
 
 -- "Order. Vectors: 1, 4, 5, 6." "5: r ≥ p", "6: I > p".
 unfoldable pub vectorsTests : ℕ → ℕ → ℕ → Tests
@@ -26,21 +27,22 @@ pub record Askable (p r I : ℕ) : Type 0 where
   pub window : I ≤ p
   pub small : p ≤ 2147483647
 
--- What a basis has to be: the pair, or the single vector where there is no pair.
+-- What the basis that `find_basis` gives has to be: the pair, or the single vector where there is no pair.
 abbrev pub Spans : ℕ → ℕ → ℕ → Basis → Type 0
 Spans p r I (Two left right) = IsPair p r I left right
 Spans p r I (One v) = IsSingle p r I v
 
--- 01's number and vectors for each case of the reply.
-abbrev pub saysVectors : Steps → Said Basis
-saysVectors (Pair left right) = answered (Two left right)
-saysVectors (Single only) = answered (One only)
+-- 01's number and values for each case of the reply.
+abbrev pub saysVectors : Steps → Said Values
+saysVectors (Pair left right) = answered (pair (left .offset) (left .line) (right .offset) (right .line))
+saysVectors (Single only) = answered (single (only .offset) (only .line))
 saysVectors (Refused number) = refused number
 
 -- "three kinds of reply": with a complaint the refusal and its number, with none the pair or the single vector.
-abbrev pub Admits : Option Complaint → ℕ → ℕ → ℕ → Said Basis → Type 0
+abbrev pub Admits : Option Complaint → ℕ → ℕ → ℕ → Said Values → Type 0
 Admits (some c) p r I said = said ≡ refused (number (c .reason))
-Admits none p r I (answered basis) = Spans p r I basis
+Admits none p r I (answered (pair α β γ δ)) = IsPair p r I (vector α β) (vector γ δ)
+Admits none p r I (answered (single i j)) = IsSingle p r I (vector i j)
 Admits none p r I (refused n) = ⊥
 
 -- The promise of the vectors call.

@@ -51,3 +51,10 @@ pub record IsSingle (p r I : ℕ) (v : Vector) : Type 0 where
   pub wide : I ≤ g
   pub at-zero : v .offset ≡ pos 0
   pub rises : v .line ≡ p / g
+
+-- 01's values for the two kinds of reply that are no refusal.
+pub data Values : Type 0 where
+  -- "Pair (α, β), (γ, δ)"
+  pair : (α : ℤ) (β : ℕ) (γ : ℤ) (δ : ℕ) → Values
+  -- "Single .. The reply is then (0, p/g)": the vector (i, j)
+  single : (i : ℤ) (j : ℕ) → Values

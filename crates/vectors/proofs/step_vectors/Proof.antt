@@ -2,6 +2,7 @@
 -- Assumes nothing.
 use Prim.Native.Nat.{ℕ}
 use mathlib.Core.Path.{sym, ap, subst}
+use mathlib.Core.Option.{none}
 use borrow.Author.Needs.{needs}
 use borrow.Author.Tests.{le-leb, lt-leb, lt-ltb, le-ltb}
 use native.Mathlib.Omega.{arith}
@@ -9,7 +10,7 @@ use Rattle.scope.specs.Refusal.{Tests, _andThen_, complaint, number, windowTest
 use Rattle.scope.specs.Reply.{refused, answered}
 use Rattle.scope.proofs.Judged.{Fails, Passes, broken, sound, first, then, both, fine, blamed}
 use Rattle.scope.proofs.Limits.{passes-first, passes-then, valid-window, valid-source}
-use Rattle.vectors.specs.declared.Basis.{Basis}
+use Rattle.vectors.specs.Vectors.{Values}
 use Rattle.vectors.specs.Promise.{Spans, Admits, VectorsPromise, vectorsTests}
 use Rattle.vectors.proofs.step_vectors.Statement.{statement}
 use Rattle.vectors.proofs.step_vectors.Tie as tie
@@ -17,8 +18,8 @@ use Rattle.vectors.proofs.step_vectors.Tie as tie
 refuse : {tests : Tests} {n : ℕ} (p r I : ℕ) → Fails tests n → Admits (complaint tests) p r I (refused n)
 refuse p r I f = rw (f .is) (ap refused (sym (f .numbered)))
 
-grant : {tests : Tests} (p r I : ℕ) (b : Basis) → Passes tests → Spans p r I b → Admits (complaint tests) p r I (answered b)
-grant p r I b q h = rw (q .is) h
+grant : {tests : Tests} (p r I : ℕ) (v : Values) → Passes tests → Admits none p r I (answered v) → Admits (complaint tests) p r I (answered v)
+grant p r I v q h = rw (q .is) h
 
 judge-window-requires : tie.Need-judge-window-requires
 judge-window-requires c κs = search needs

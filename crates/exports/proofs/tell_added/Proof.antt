@@ -1,0 +1,22 @@
+-- Each arm of the match tells its own case of the reply.
+-- Assumes nothing.
+use mathlib.Core.Path.{sym, ap}
+use Rattle.exports.specs.Replies.{tellAdded}
+use borrow.Author.Needs.{needs}
+use Rattle.exports.proofs.tell_added.Statement.{statement}
+use Rattle.exports.proofs.tell_added.Tie as tie
+
+enum-told : tie.Need-enum-told
+enum-told c = search needs
+
+enum-known-reply : tie.Need-enum-known-reply
+enum-known-reply c = search needs
+
+returns : tie.Need-returns
+returns c = sym (ap tellAdded (c .enum-told .given .1))
+
+returns-2 : tie.Need-returns-2
+returns-2 c = sym (ap tellAdded (c .before .reply .given .1))
+
+pub tell-added-spec : {M : Type 1} → statement M
+tell-added-spec = tie.close (tie.spec enum-told enum-known-reply returns returns-2)
