@@ -48,7 +48,14 @@ fn draw_run(state: u64) -> Run {
 
 // Puts down the hit of line first + k, if it has one not below the start. The only tick of the window that can be an edge is
 // the last edge up to the window's left end, T·j + I/2, since the period is not below the window.
-fn visit_line(run: Run, period: u32, k: u32, start: u64, found: &mut [u64], count: usize) -> usize {
+fn visit_line(
+    run: Run,
+    period: u32,
+    k: u32,
+    start: RunCell,
+    found: &mut [u64],
+    count: usize,
+) -> usize {
     if found.len() <= count {
         return count;
     }
@@ -56,15 +63,15 @@ fn visit_line(run: Run, period: u32, k: u32, start: u64, found: &mut [u64], coun
     let left = numbers::add(numbers::product(run.interval, line), run.window as u64 / 2);
     let distance = numbers::rest(left, period as u64);
     let cell = numbers::add(numbers::product(run.window, k), distance);
-    if (run.window as u64) <= distance || cell < start {
+    if (run.window as u64) <= distance || cell < start.0 {
         return count;
     }
-    numbers::put_cell(found, count, cell);
+    numbers::put_long(found, count, cell);
     count + 1
 }
 
 // Puts down the first hits from a cell on, as many as there is room for. Answers how many there are.
-fn walk_lines(run: Run, period: u32, start: u64, found: &mut [u64]) -> usize {
+fn walk_lines(run: Run, period: u32, start: RunCell, found: &mut [u64]) -> usize {
     let lines = reference::lines(run);
     let mut count: usize = 0;
     let mut k: u32 = 0;
@@ -79,7 +86,7 @@ fn walk_lines(run: Run, period: u32, start: u64, found: &mut [u64]) -> usize {
 fn starts_alike(room: &[u64], found: &[u64], count: usize) -> bool {
     let mut k: usize = 0;
     while k < count {
-        if numbers::cell_at(room, k) != numbers::cell_at(found, k) {
+        if numbers::long_at(room, k) != numbers::long_at(found, k) {
             return false;
         }
         k += 1;
@@ -88,9 +95,9 @@ fn starts_alike(room: &[u64], found: &[u64], count: usize) -> bool {
 }
 
 // Whether the first hit from a cell on is the first that the walk found, and "none" is said exactly if it found none.
-fn first_hit_agrees(run: Run, period: u32, start: u64, found: &[u64], count: usize) -> bool {
-    match hits::first_hit(run, Source { period }, RunCell(start)) {
-        FirstHit::At(cell) => 0 < count && cell.0 == numbers::cell_at(found, 0),
+fn first_hit_agrees(run: Run, period: u32, start: RunCell, found: &[u64], count: usize) -> bool {
+    match hits::first_hit(run, Source { period }, start) {
+        FirstHit::At(cell) => 0 < count && cell.0 == numbers::long_at(found, 0),
         FirstHit::Nothing => count == 0,
         FirstHit::Refused(_) => false,
     }
@@ -101,18 +108,18 @@ fn first_hit_agrees(run: Run, period: u32, start: u64, found: &[u64], count: usi
 fn listing_agrees(
     run: Run,
     period: u32,
-    start: u64,
+    start: RunCell,
     room: &mut [u64],
     found: &[u64],
     count: usize,
 ) -> bool {
     let size = room.len();
-    match hits::list_hits(run, Source { period }, RunCell(start), room) {
+    match hits::list_hits(run, Source { period }, start, room) {
         Listing::Done(written) => written == count && starts_alike(room, found, written),
         Listing::More(written, cell) => {
             written == size
                 && size < count
-                && cell.0 == numbers::cell_at(found, size)
+                && cell.0 == numbers::long_at(found, size)
                 && starts_alike(room, found, written)
         }
         Listing::Refused(_) => false,
@@ -125,7 +132,7 @@ fn compare_hits(ledger: &mut [u64], state: u64) {
     let b = random::next(a);
     let run = draw_run(a >> 9);
     let period = period(b >> 9);
-    let start = random::below(b, reference::cells(run) as u64 / 2);
+    let start = RunCell(random::below(b, reference::cells(run) as u64 / 2));
     let mut found = [0u64; 9];
     let mut room = [0u64; 8];
     let count = walk_lines(run, period, start, &mut found);

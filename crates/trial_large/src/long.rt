@@ -60,8 +60,8 @@ fn line_state(state: u64, line: u32) -> u64 {
 
 // Draws the cells of a line of a map.
 fn draw_line(block: Block, map: &mut [u8], state: u64) {
-    let from = block.from;
-    let end = block.end;
+    let from = block.from.0 as usize;
+    let end = block.end.0 as usize;
     if end < from || map.len() < end {
         return;
     }
@@ -93,8 +93,8 @@ fn line_agrees(
     sums: &mut [u32],
     state: u64,
 ) -> bool {
-    let from = block.from;
-    let end = block.end;
+    let from = block.from.0 as usize;
+    let end = block.end.0 as usize;
     if end < from || map.len() < end {
         return false;
     }

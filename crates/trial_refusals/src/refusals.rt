@@ -4,7 +4,6 @@ use hits::FirstHit;
 use hits::Listing;
 use map::Added;
 use saved::Saved;
-use scope::RunCell;
 use scope::Source;
 use trying::faults;
 use trying::faults::has;
@@ -122,7 +121,7 @@ fn first_hit_refused(faults: u64, state: u64) -> bool {
     let period = faults::period(has(faults, PERIOD), state >> 32);
     let start = faults::start(has(faults, START), run, state >> 36);
     let expected = hit_refusal(faults % ROOM);
-    match hits::first_hit(run, Source { period }, RunCell(start)) {
+    match hits::first_hit(run, Source { period }, start) {
         FirstHit::Refused(number) => number == expected,
         FirstHit::At(_) => expected == 0,
         FirstHit::Nothing => expected == 0,
@@ -136,7 +135,7 @@ fn listing_refused(faults: u64, state: u64, room: &mut [u64]) -> bool {
     let start = faults::start(has(faults, START), run, state >> 36);
     let expected = hit_refusal(faults);
     untouched::fill_cells(room);
-    match hits::list_hits(run, Source { period }, RunCell(start), room) {
+    match hits::list_hits(run, Source { period }, start, room) {
         Listing::Refused(number) => number == expected && untouched::cells_untouched(room),
         Listing::Done(_) => expected == 0,
         Listing::More(_, _) => expected == 0,

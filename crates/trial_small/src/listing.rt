@@ -1,6 +1,8 @@
 // First hit and listing, compared with the marked cells of a run.
+use crate::turning;
 use hits::FirstHit;
 use hits::Listing;
+use scope::Run;
 use scope::RunCell;
 use scope::Source;
 use trying::draw;
@@ -17,21 +19,21 @@ pub const HIT_LEFT: usize = 30;
 
 pub const NONE_LEFT: usize = 31;
 
-// No cell to go on from: something was wrong.
-const WRONG: usize = 18446744073709551615;
+// The number of no cell: something was wrong.
+const WRONG: u64 = 18446744073709551615;
 
 // Whether the first hit from a cell on is the first marked cell, and "none" is said exactly if there is none.
-pub fn first_hit_agrees(case: Case, truth: &[u8], start: usize) -> bool {
+pub fn first_hit_agrees(case: Case, truth: &[u8], start: RunCell) -> bool {
     let hit = reference::next_hit(truth, start);
     match hits::first_hit(
         case.run,
         Source {
             period: case.period,
         },
-        RunCell(start as u64),
+        start,
     ) {
-        FirstHit::At(cell) => hit < truth.len() && cell.0 == hit as u64,
-        FirstHit::Nothing => hit == truth.len(),
+        FirstHit::At(cell) => hit.0 < truth.len() as u64 && cell.0 == hit.0,
+        FirstHit::Nothing => hit.0 == truth.len() as u64,
         FirstHit::Refused(_) => false,
     }
 }
@@ -49,7 +51,7 @@ pub fn first_hits_agree(
     let mut turns: u32 = 0;
     while turns < 4 {
         s = random::next(s);
-        let start = random::below(s, truth.len() as u64) as usize;
+        let start = RunCell(random::below(s, truth.len() as u64));
         fine = tally::count(ledger, place, first_hit_agrees(case, truth, start)) && fine;
         turns += 1;
     }
@@ -58,20 +60,24 @@ pub fn first_hits_agree(
 
 // Where the comparison of a room goes on from its place k: behind the hit that stands there, which is to be the first marked
 // cell not below `at`. Past the `count` hits written, the room is to be untouched.
-fn read_place(room: &[u64], k: usize, count: usize, truth: &[u8], at: usize) -> usize {
-    let found = numbers::cell_at(room, k);
+fn read_place(room: &[u64], k: usize, count: usize, truth: &[u8], at: RunCell) -> RunCell {
+    let found = numbers::long_at(room, k);
     if count <= k {
-        return if found == untouched::CELL { at } else { WRONG };
+        return if found == untouched::CELL {
+            at
+        } else {
+            RunCell(WRONG)
+        };
     }
     let hit = reference::next_hit(truth, at);
-    if hit < truth.len() {
-        return if found == hit as u64 { hit + 1 } else { WRONG };
+    if hit.0 < truth.len() as u64 && found == hit.0 {
+        return RunCell(numbers::add(hit.0, 1));
     }
-    WRONG
+    RunCell(WRONG)
 }
 
 // The marked cell after the `count` that a room is to hold from the start on, or the number of cells if there is none.
-fn after_room(room: &[u64], count: usize, truth: &[u8], start: usize) -> usize {
+fn after_room(room: &[u64], count: usize, truth: &[u8], start: RunCell) -> RunCell {
     let size = room.len();
     let mut at = start;
     let mut k: usize = 0;
@@ -79,8 +85,8 @@ fn after_room(room: &[u64], count: usize, truth: &[u8], start: usize) -> usize {
         at = read_place(room, k, count, truth, at);
         k += 1;
     }
-    if at == WRONG || size < count {
-        return WRONG;
+    if at.0 == WRONG || size < count {
+        return RunCell(WRONG);
     }
     reference::next_hit(truth, at)
 }
@@ -90,16 +96,16 @@ fn count_of(reply: Listing) -> usize {
     match reply {
         Listing::Done(count) => count,
         Listing::More(count, _) => count,
-        Listing::Refused(_) => WRONG,
+        Listing::Refused(_) => WRONG as usize,
     }
 }
 
 // Whether a reply is right, if `next` is the marked cell after those written: "more" from it exactly if it is a cell of the
 // run, and then the room is full.
-fn reply_is(reply: Listing, size: usize, next: usize, all: usize) -> bool {
+fn reply_is(reply: Listing, size: usize, next: RunCell, all: u64) -> bool {
     match reply {
-        Listing::Done(_) => next == all,
-        Listing::More(count, cell) => count == size && next < all && cell.0 == next as u64,
+        Listing::Done(_) => next.0 == all,
+        Listing::More(count, cell) => count == size && next.0 < all && cell.0 == next.0,
         Listing::Refused(_) => false,
     }
 }
@@ -108,40 +114,40 @@ fn reply_is(reply: Listing, size: usize, next: usize, all: usize) -> bool {
 fn list_once(
     ledger: &mut [u64],
     case: Case,
-    start: usize,
+    start: RunCell,
     room: &mut [u64],
     truth: &[u8],
-) -> usize {
+) -> RunCell {
     let size = room.len();
-    let all = truth.len();
+    let all = truth.len() as u64;
     untouched::fill_cells(room);
     let reply = hits::list_hits(
         case.run,
         Source {
             period: case.period,
         },
-        RunCell(start as u64),
+        start,
         room,
     );
     let count = count_of(reply);
     let next = after_room(room, count, truth, start);
     let fine = reply_is(reply, size, next, all);
-    tally::count_if(ledger, count == size && next < all, HIT_LEFT, fine);
-    tally::count_if(ledger, count == size && next == all, NONE_LEFT, fine);
-    if fine { next } else { WRONG }
+    tally::count_if(ledger, count == size && next.0 < all, HIT_LEFT, fine);
+    tally::count_if(ledger, count == size && next.0 == all, NONE_LEFT, fine);
+    if fine { next } else { RunCell(WRONG) }
 }
 
 // One listing with room for `size` hits.
 fn list_some(
     ledger: &mut [u64],
     case: Case,
-    start: usize,
+    start: RunCell,
     room: &mut [u64],
     size: usize,
     truth: &[u8],
-) -> usize {
+) -> RunCell {
     if room.len() < size {
-        return WRONG;
+        return RunCell(WRONG);
     }
     list_once(ledger, case, start, &mut room[0..size], truth)
 }
@@ -152,7 +158,7 @@ pub fn listing_agrees(
     case: Case,
     room: &mut [u64],
     truth: &[u8],
-    start: usize,
+    start: RunCell,
     state: u64,
 ) -> bool {
     let all = truth.len();
@@ -169,7 +175,7 @@ pub fn listing_agrees(
             1 + random::below32(s, 6) as usize,
             truth,
         );
-        if at == all {
+        if at.0 == all as u64 {
             return true;
         }
         turns += 1;
@@ -177,32 +183,44 @@ pub fn listing_agrees(
     false
 }
 
-// Whether the listing of a block from its cell 0 on agrees. Its marked cells are a part of the run's.
+// Whether a block's first hit, its cell turned into the run's, is the run's first marked cell from the block's first on.
+fn first_in_block_agrees(run: Run, period: u32, block: Block, truth: &[u8]) -> bool {
+    let hit = reference::next_hit(truth, block.from);
+    match hits::first_hit(block.run, Source { period }, RunCell(0)) {
+        FirstHit::At(cell) => turning::in_run(run, block.run, cell).0 == hit.0,
+        FirstHit::Nothing => block.end.0 <= hit.0,
+        FirstHit::Refused(_) => false,
+    }
+}
+
+// Whether the first hit and the listing of a block from its cell 0 on agree. Its marked cells are a part of the run's.
 fn block_agrees(
     ledger: &mut [u64],
-    period: u32,
+    case: Case,
     block: Block,
     room: &mut [u64],
     truth: &[u8],
     state: u64,
 ) -> bool {
     let run = block.run;
-    let from = block.from;
-    let end = block.end;
+    let period = case.period;
+    let from = block.from.0 as usize;
+    let end = block.end.0 as usize;
     if end <= from {
         return true;
     }
     if truth.len() < end {
         return false;
     }
-    listing_agrees(
+    let listed = listing_agrees(
         ledger,
         Case { run, period },
         room,
         &truth[from..end],
-        0,
+        RunCell(0),
         state,
-    )
+    );
+    first_in_block_agrees(case.run, period, block, truth) && listed
 }
 
 // Whether the listings of the blocks of a run, cut at random, agree. Every turn takes at least one line.
@@ -222,7 +240,7 @@ pub fn blocks_agree(
     while turns < lines {
         s = random::next(s);
         let block = draw::block_from(run, first, s);
-        fine = block_agrees(ledger, case.period, block, room, truth, s) && fine;
+        fine = block_agrees(ledger, case, block, room, truth, s) && fine;
         first = numbers::add32(block.run.last, 1);
         turns += 1;
     }

@@ -4,6 +4,7 @@
 mod listing;
 mod mapping;
 mod small;
+mod turning;
 
 // Compares all random small runs, and prints the counts.
 fn main() {

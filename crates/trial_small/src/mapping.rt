@@ -61,8 +61,8 @@ pub fn one_by_one_agrees(
 
 // Adds all sources to a block's part of a map.
 fn add_block(block: Block, periods: &[u32], weights: &[u32], map: &mut [u8]) -> bool {
-    let from = block.from;
-    let end = block.end;
+    let from = block.from.0 as usize;
+    let end = block.end.0 as usize;
     if end <= from {
         return true;
     }

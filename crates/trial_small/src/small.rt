@@ -2,6 +2,7 @@
 use crate::listing;
 use crate::mapping;
 use scope::Run;
+use scope::RunCell;
 use trying::draw;
 use trying::draw::Case;
 use trying::numbers;
@@ -45,9 +46,9 @@ fn all_fine(a: bool, b: bool, c: bool) -> bool {
 // The listings of a case, from a random cell and from cell 0 on, and of its blocks.
 fn compare_listings(ledger: &mut [u64], case: Case, truth: &[u8], state: u64) -> bool {
     let mut room = [0u64; 8];
-    let start = random::below(state, truth.len() as u64) as usize;
+    let start = RunCell(random::below(state, truth.len() as u64));
     let some = listing::listing_agrees(ledger, case, &mut room, truth, start, state);
-    let whole = listing::listing_agrees(ledger, case, &mut room, truth, 0, state);
+    let whole = listing::listing_agrees(ledger, case, &mut room, truth, RunCell(0), state);
     let cut = listing::blocks_agree(ledger, case, &mut room, truth, state);
     tally::count(ledger, LISTING, some);
     tally::count(ledger, LISTING, whole);

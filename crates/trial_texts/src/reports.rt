@@ -1,6 +1,7 @@
 // The report of the list program: every byte is compared with a report that is written from the walk over all cells.
 use crate::texts;
 use scope::Run;
+use scope::RunCell;
 use trying::draw;
 use trying::numbers;
 use trying::random;
@@ -45,12 +46,12 @@ fn put_sources(room: &mut [u8], at: usize, run: Run, periods: &[u32], weights: &
 }
 
 // Writes the line of a cell, if it is above 0.
-fn put_cell(room: &mut [u8], at: usize, cell: usize, sum: u32) -> usize {
+fn put_cell(room: &mut [u8], at: usize, cell: RunCell, sum: u32) -> usize {
     if sum == 0 {
         return at;
     }
     let a = texts::put_words(room, at, b"map");
-    let b = texts::put_number(room, a, numbers::low32(cell as u64));
+    let b = texts::put_number(room, a, numbers::low32(cell.0));
     let c = texts::put_number(room, b, numbers::least(255, sum));
     texts::put_words(room, c, b"\n")
 }
@@ -61,7 +62,7 @@ fn put_cells(room: &mut [u8], at: usize, sums: &[u32]) -> usize {
     let mut next = at;
     let mut x: usize = 0;
     while x < all {
-        next = put_cell(room, next, x, sums[x]);
+        next = put_cell(room, next, RunCell(x as u64), sums[x]);
         x += 1;
     }
     next

@@ -3,6 +3,7 @@
 use crate::numbers;
 use crate::random;
 use scope::Run;
+use scope::RunCell;
 
 // What sources are drawn from. Periods are up to the width, the width itself, one to six times the factor, or up to the longest;
 // weights are up to the heaviest.
@@ -120,13 +121,13 @@ pub fn draw_map(map: &mut [u8], state: u64) {
 // A block of a run, and which of the run's cells are its own: those not below `from` and below `end`.
 pub struct Block {
     pub run: Run,
-    pub from: usize,
-    pub end: usize,
+    pub from: RunCell,
+    pub end: RunCell,
 }
 
 // A run's number of the first cell of a line.
-fn cell_of_line(run: Run, line: u32) -> usize {
-    numbers::product(run.window, numbers::sub32(line, run.first)) as usize
+fn cell_of_line(run: Run, line: u32) -> RunCell {
+    RunCell(numbers::product(run.window, numbers::sub32(line, run.first)))
 }
 
 // The block of a run from a line to a line.

@@ -2,6 +2,7 @@
 use crate::numbers;
 use crate::reference;
 use scope::Run;
+use scope::RunCell;
 
 // The faults of a run are the same bits in every call.
 pub const WINDOW: u64 = 1;
@@ -151,18 +152,18 @@ pub fn source_refusal(period: bool, period_at: usize, weight: bool, weight_at: u
 }
 
 // A cell to start from: the first or the last of the run, or one of the next after it, or the largest number.
-pub fn start(bad: bool, run: Run, state: u64) -> u64 {
+pub fn start(bad: bool, run: Run, state: u64) -> RunCell {
     let cells = reference::cells(run) as u64;
     if bad {
         return match state % 3 {
-            0 => cells,
-            1 => numbers::add(cells, 1),
-            _ => 18446744073709551615,
+            0 => RunCell(cells),
+            1 => RunCell(numbers::add(cells, 1)),
+            _ => RunCell(18446744073709551615),
         };
     }
     match state % 2 {
-        0 => 0,
-        _ => numbers::sub(cells, 1),
+        0 => RunCell(0),
+        _ => RunCell(numbers::sub(cells, 1)),
     }
 }
 

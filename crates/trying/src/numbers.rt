@@ -95,14 +95,14 @@ pub fn put_number(list: &mut [u32], at: usize, number: u32) {
     }
 }
 
-// The cell number at a place of a list; 0 past its end.
-pub fn cell_at(list: &[u64], at: usize) -> u64 {
+// The number of 64 bits at a place of a list; 0 past its end.
+pub fn long_at(list: &[u64], at: usize) -> u64 {
     if at < list.len() { list[at] } else { 0 }
 }
 
-// Puts a cell number at a place of a list, if that is not past its end.
-pub fn put_cell(list: &mut [u64], at: usize, cell: u64) {
+// Puts a number of 64 bits at a place of a list, if that is not past its end.
+pub fn put_long(list: &mut [u64], at: usize, number: u64) {
     if at < list.len() {
-        list[at] = cell;
+        list[at] = number;
     }
 }

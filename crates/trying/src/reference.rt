@@ -1,6 +1,7 @@
-// What 01 says of hits, worked out for each cell by itself. Of the library only the type of a run is used here, and no code.
+// What 01 says of hits, worked out for each cell by itself. Of the library only the types of a run and of its cells are used here, and no code.
 use crate::numbers;
 use scope::Run;
+use scope::RunCell;
 
 // T·j - i, where i = distance - I/2 is the offset of the cell so far right of the window's left edge.
 fn instant(tick: u32, half: u32, distance: u32) -> i64 {
@@ -46,16 +47,13 @@ pub fn same_run(a: Run, b: Run) -> bool {
 }
 
 // Whether a source hits the cell with this number.
-fn is_hit_cell(run: Run, period: u32, cell: u32) -> bool {
-    let window = run.window;
-    if window == 0 {
-        return false;
-    }
+fn is_hit_cell(run: Run, period: u32, cell: RunCell) -> bool {
+    let window = run.window as u64;
     is_hit(
         run,
         period,
-        numbers::add32(run.first, cell / window),
-        cell % window,
+        numbers::add32(run.first, numbers::low32(numbers::quotient(cell.0, window))),
+        numbers::low32(numbers::rest(cell.0, window)),
     )
 }
 
@@ -64,23 +62,23 @@ pub fn mark(run: Run, period: u32, truth: &mut [u8]) {
     let all = truth.len();
     let mut x: usize = 0;
     while x < all {
-        let hit = is_hit_cell(run, period, numbers::low32(x as u64));
+        let hit = is_hit_cell(run, period, RunCell(x as u64));
         numbers::put_byte(truth, x, hit as u8);
         x += 1;
     }
 }
 
 // The first marked cell not below `from`, or the number of cells if there is none.
-pub fn next_hit(truth: &[u8], from: usize) -> usize {
+pub fn next_hit(truth: &[u8], from: RunCell) -> RunCell {
     let all = truth.len();
-    let mut x = from;
+    let mut x = from.0 as usize;
     while x < all {
         if truth[x] == 1 {
-            return x;
+            return RunCell(x as u64);
         }
         x += 1;
     }
-    all
+    RunCell(all as u64)
 }
 
 // How many cells of a run a source hits.
@@ -89,15 +87,16 @@ pub fn count_hits(run: Run, period: u32) -> u32 {
     let mut count: u32 = 0;
     let mut x: u32 = 0;
     while x < all {
-        count = numbers::add32(count, is_hit_cell(run, period, x) as u32);
+        count = numbers::add32(count, is_hit_cell(run, period, RunCell(x as u64)) as u32);
         x += 1;
     }
     count
 }
 
 // Adds a source's weight to the sum of one cell, if it hits that cell.
-fn add_weight_at(run: Run, period: u32, weight: u32, sums: &mut [u32], x: usize) {
-    if is_hit_cell(run, period, numbers::low32(x as u64)) {
+fn add_weight_at(run: Run, period: u32, weight: u32, sums: &mut [u32], cell: RunCell) {
+    let x = cell.0 as usize;
+    if is_hit_cell(run, period, cell) {
         let sum = numbers::number_at(sums, x);
         numbers::put_number(sums, x, numbers::add32(sum, weight));
     }
@@ -108,7 +107,7 @@ fn add_weight(run: Run, period: u32, weight: u32, sums: &mut [u32]) {
     let all = sums.len();
     let mut x: usize = 0;
     while x < all {
-        add_weight_at(run, period, weight, sums, x);
+        add_weight_at(run, period, weight, sums, RunCell(x as u64));
         x += 1;
     }
 }

@@ -41,8 +41,8 @@ pub fn print(ledger: &[u64], place: usize, words: &[u8]) {
     }
     io::write_all(1, words);
     io::write_all(1, b": ");
-    io::print_decimal(1, numbers::cell_at(ledger, place));
+    io::print_decimal(1, numbers::long_at(ledger, place));
     io::write_all(1, b" tried, ");
-    io::print_decimal(1, numbers::cell_at(ledger, place + 32));
+    io::print_decimal(1, numbers::long_at(ledger, place + 32));
     io::write_all(1, b" bad\n");
 }

@@ -35,7 +35,7 @@ pub fn fill_cells(room: &mut [u64]) {
     let size = room.len();
     let mut k: usize = 0;
     while k < size {
-        numbers::put_cell(room, k, CELL);
+        numbers::put_long(room, k, CELL);
         k += 1;
     }
 }

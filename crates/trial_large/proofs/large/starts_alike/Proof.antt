@@ -13,11 +13,11 @@ abbrev μ-loop : tie.MeasureT-loop
 loop-holds : tie.Need-loop-holds Inv-loop μ-loop
 loop-holds c = search needs
 
-cell-at-requires : tie.Need-cell-at-requires Inv-loop μ-loop
-cell-at-requires c κs = search needs
+long-at-requires : tie.Need-long-at-requires Inv-loop μ-loop
+long-at-requires c κs = search needs
 
-cell-at-requires-2 : tie.Need-cell-at-requires-2 Inv-loop μ-loop
-cell-at-requires-2 c κs = search needs
+long-at-requires-2 : tie.Need-long-at-requires-2 Inv-loop μ-loop
+long-at-requires-2 c κs = search needs
 
 returns : tie.Need-returns Inv-loop μ-loop
 returns c = search needs
@@ -44,8 +44,8 @@ starts-alike-spec =
     Inv-loop
     μ-loop
     loop-holds
-    cell-at-requires
-    cell-at-requires-2
+    long-at-requires
+    long-at-requires-2
     returns
     add-k
     loop-less

@@ -5,10 +5,10 @@ use Rattle.trial_small.proofs.listing.after_room.Statement.{statement}
 use Rattle.trial_small.proofs.listing.after_room.Tie as tie
 
 abbrev Inv-loop : tie.InvT-loop
-Inv-loop room count truth start size at₀ k₀ at k = Unit {0}
+Inv-loop room count truth size at₀ k₀ at k = Unit {0}
 
 abbrev μ-loop : tie.MeasureT-loop
-μ-loop room count truth start size at₀ k₀ at k = size - k
+μ-loop room count truth size at₀ k₀ at k = size - k
 
 loop-holds : tie.Need-loop-holds Inv-loop μ-loop
 loop-holds c = search needs

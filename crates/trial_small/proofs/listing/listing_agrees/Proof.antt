@@ -7,10 +7,10 @@ use Rattle.trial_small.proofs.listing.listing_agrees.Statement.{stateme
 use Rattle.trial_small.proofs.listing.listing_agrees.Tie as tie
 
 abbrev Inv-loop : tie.InvT-loop
-Inv-loop ledger₀ case room₀ truth start state all at₀ s₀ turns₀ ledger room at s turns = (length ledger ≡ length ledger₀) × (length room ≡ length room₀)
+Inv-loop ledger₀ case room₀ truth state all at₀ s₀ turns₀ ledger room at s turns = (length ledger ≡ length ledger₀) × (length room ≡ length room₀)
 
 abbrev μ-loop : tie.MeasureT-loop
-μ-loop ledger₀ case room₀ truth start state all at₀ s₀ turns₀ ledger room at s turns = all - turns
+μ-loop ledger₀ case room₀ truth state all at₀ s₀ turns₀ ledger room at s turns = all - turns
 
 loop-holds : tie.Need-loop-holds Inv-loop μ-loop
 loop-holds c = search needs

@@ -19,6 +19,9 @@ low32-requires c κs = search needs
 loop-holds : tie.Need-loop-holds Inv-loop μ-loop
 loop-holds c = search needs
 
+cast-t9 : tie.Need-cast-t9 Inv-loop μ-loop
+cast-t9 c = search needs
+
 is-hit-cell-requires : tie.Need-is-hit-cell-requires Inv-loop μ-loop
 is-hit-cell-requires c κs = search needs
 
@@ -49,6 +52,7 @@ count-hits-spec =
     cells-requires
     low32-requires
     loop-holds
+    cast-t9
     is-hit-cell-requires
     cast-add32
     add32-requires

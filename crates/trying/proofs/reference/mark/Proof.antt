@@ -15,9 +15,6 @@ abbrev μ-loop : tie.MeasureT-loop
 loop-holds : tie.Need-loop-holds Inv-loop μ-loop
 loop-holds c = search needs
 
-low32-requires : tie.Need-low32-requires Inv-loop μ-loop
-low32-requires c κs = search needs
-
 is-hit-cell-requires : tie.Need-is-hit-cell-requires Inv-loop μ-loop
 is-hit-cell-requires c κs = search needs
 
@@ -49,7 +46,6 @@ mark-spec =
     Inv-loop
     μ-loop
     loop-holds
-    low32-requires
     is-hit-cell-requires
     cast-put-byte
     put-byte-requires

@@ -5,10 +5,10 @@ use Rattle.trying.proofs.reference.next_hit.Statement.{statement}
 use Rattle.trying.proofs.reference.next_hit.Tie as tie
 
 abbrev Inv-loop : tie.InvT-loop
-Inv-loop truth from all x₀ x = Unit {0}
+Inv-loop truth all x₀ x = Unit {0}
 
 abbrev μ-loop : tie.MeasureT-loop
-μ-loop truth from all x₀ x = all - x
+μ-loop truth all x₀ x = all - x
 
 loop-holds : tie.Need-loop-holds Inv-loop μ-loop
 loop-holds c = search needs

@@ -15,8 +15,8 @@ abbrev μ-loop : tie.MeasureT-loop
 loop-holds : tie.Need-loop-holds Inv-loop μ-loop
 loop-holds c = search needs
 
-put-cell-requires : tie.Need-put-cell-requires Inv-loop μ-loop
-put-cell-requires c κs = search needs
+put-long-requires : tie.Need-put-long-requires Inv-loop μ-loop
+put-long-requires c κs = search needs
 
 add-k : tie.Need-add-k Inv-loop μ-loop
 add-k c = search needs
@@ -40,7 +40,7 @@ fill-cells-spec =
     Inv-loop
     μ-loop
     loop-holds
-    put-cell-requires
+    put-long-requires
     add-k
     loop-less
     loop-again
