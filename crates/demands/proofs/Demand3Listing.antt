@@ -121,8 +121,8 @@ chain-exists block source v w rooms above =
 pub chain-ends : (block : Run) (source : Source) (start : RunCell) (chain : Chain block source start) → callsOf chain ≤ max 1 (length (hitsFrom block source (start .0)))
 chain-ends block source start chain = few-calls chain
 
--- And so it does for every sequence of calls, also one that has not come to "done": so many calls that all say "more" there
--- are only if there are more hits than calls, or no call.
+-- So does every sequence of calls, also one that has not come to "done": one after the other, fewer calls say "more" than there
+-- are hits, and none does where there is no hit.
 pub mores-end : (block : Run) (source : Source) (start : RunCell) (calls : ℕ) → Mores block source start calls → calls < max 1 (length (hitsFrom block source (start .0)))
 mores-end block source start calls mores = few-mores mores
 
