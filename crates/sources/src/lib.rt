@@ -1,5 +1,5 @@
 // Lists of sources: a list of periods with a list of weights, and the tests that every list passes before it is used.
-// Every function is proved. `judge_entries` is an inner step of the crates above.
+// Every function is proved. The public ones are inner steps of the crates above.
 use scope::Verdict;
 ghost use mathlib.Core.Path.{_≡_};
 ghost use lib.ListN.{length};
@@ -8,8 +8,8 @@ ghost use Rattle.sources.specs.Verdicts.{firstOf};
 ghost use Rattle.scope.specs.Refusal.{complaint, weightTests};
 ghost use Rattle.scope.specs.Reply.{verdict};
 
-// The first of two verdicts, unless it is fine: then the second.
-fn first_of(first: Verdict, second: Verdict) -> Verdict
+// Inner step. The first of two verdicts, unless it is fine: then the second.
+pub fn first_of(first: Verdict, second: Verdict) -> Verdict
     ensures { λ r. ⌜ r ≡ firstOf first second ⌝ }
 {
     match first {

@@ -4,7 +4,10 @@ use decimal::Number;
 use scope::Run;
 use scope::Verdict;
 ghost use mathlib.Core.Path.{_≡_};
+ghost use lib.Dec.{ltb};
 ghost use lib.ListN.{length, set};
+ghost use Rattle.scope.specs.Refusal.{_when_, TooMany, complaint};
+ghost use Rattle.scope.specs.Reply.{verdict};
 ghost use Rattle.text.specs.Promise.{refusal, TextPromise};
 ghost use Rattle.text.specs.Inner.{WordAt, FieldAt, LineAt, SourceAt, SourcesAt, LinesAt, runOf};
 
@@ -177,6 +180,16 @@ fn run_of(numbers: [u32; 4]) -> Run
     }
 }
 
+// What 01's table says of a number of sources: 12 for more than 64.
+fn judge_count(count: usize) -> Verdict
+    ensures { λ r. ⌜ r ≡ verdict (complaint (TooMany when ltb 64 count)) ⌝ }
+{
+    if SOURCES < count {
+        return Verdict::Refused(12);
+    }
+    Verdict::Fine
+}
+
 // A refusal, and nothing with it.
 fn refuse(number: u8) -> Input
     ensures { λ r. ⌜ r ≡ refusal number ⌝ }
@@ -209,11 +222,10 @@ pub fn read_text(text: &[u8]) -> Input
         return refuse(number);
     }
     let run = run_of(numbers);
-    if let Verdict::Refused(number) = scope::judge_run(run) {
+    let of_run = scope::judge_run(run);
+    let of_count = judge_count(count);
+    if let Verdict::Refused(number) = sources::first_of(of_run, of_count) {
         return refuse(number);
-    }
-    if SOURCES < count {
-        return refuse(12);
     }
     if CELLS < scope::cells(run) {
         return refuse(12);

@@ -1,16 +1,19 @@
 -- `text::read_text` meets its contract: its lines say what the text says, and the first test that this fails is the refusal. Assumes nothing.
+use Prim.Native.Nat.{_≤_}
 use mathlib.Core.Path.{_≡_, sym, _∙_, subst}
 use native.Mathlib.Omega.{arith}
 use borrow.Author.Needs.{needs}
-use borrow.Author.Tests.{lt-ltb, le-ltb}
+use borrow.Author.Tests.{ltb-false, lt-ltb, le-ltb}
 use lib.Dec.{ltb}
 use lib.ListN.{length, take, replicate}
 use lib.Seq.{length-take-le}
 use Rattle.scope.specs.Run.{cellsOf}
-use Rattle.scope.specs.Refusal.{_when_, _andThen_, TooMany, number, runTests}
+use Rattle.scope.specs.Refusal.{_when_, _andThen_, TooMany, complaint, number, runTests}
+use Rattle.scope.specs.Reply.{verdict}
 use Rattle.scope.proofs.Judged.{Passes, Fails, broken, sound, first, then, both, fine, blamed}
-use Rattle.scope.proofs.Limits.{valid-run}
+use Rattle.scope.proofs.Limits.{passes-when, passes-first, passes-then, valid-run}
 use Rattle.sources.specs.Entry.{entriesOf, listTests}
+use Rattle.sources.proofs.Verdicts.{verdict-then}
 use Rattle.text.specs.Form.{runWord, runNumbers, Content, Spells}
 use Rattle.text.specs.Promise.{textTests}
 use Rattle.text.specs.Inner.{Line, AllLines, LinesAt}
@@ -37,38 +40,50 @@ content c = record { run = c .run-of .result; entries = lines-read (c .before) .
 formed : (c : tie.After-run-of) → Spells (c .before .before .before .before .before .before .before .before .before .before .before .before .args .text .now) (content c)
 formed c = has-form (run-read c) (lines-read (c .before) .short) (lines-read (c .before) .lists .lines)
 
--- the tests that it has passed, of the run, and of the numbers of sources and cells too
-run-passes : (c : tie.After-enum-told2) → Passes (runTests (content (c .before .before .before) .run))
-run-passes c = fine (c .before .before .judge-run .ensures) (c .enum-told2 .given .1)
+-- the verdict on the run and on the number of sources
+judged : (c : tie.After-first-of)
+    → let d = content (c .before .before .before) in
+    c .first-of .result ≡ verdict (complaint (runTests (d .run) andThen TooMany when ltb 64 (length (d .entries))))
+judged c =
+    let l = lines-read (c .before .before .before .before) .lists in
+    rw (l .counted)
+    (c .first-of .ensures ∙ simp (c .before .judge-count .ensures, c .before .before .judge-run .ensures) (sym (verdict-then (runTests _) (TooMany when _))))
 
-few-passes : (c : tie.Else1)
-    → let d = content (c .before .before .before .before) in
+-- the tests that it has passed, and of the number of cells too
+few-passes : (c : tie.After-enum-told2)
+    → let d = content (c .before .before .before .before .before) in
     Passes (runTests (d .run) andThen TooMany when ltb 64 (length (d .entries)))
-few-passes c =
-    let l = lines-read (c .before .before .before .before .before) .lists in
-    both (run-passes (c .before)) (sound (le-ltb 64 (length (l .entries)) (omega (arith, l .counted))))
+few-passes c = fine (judged (c .before .before)) (c .enum-told2 .given .1)
 
-cells-passes : (c : tie.Else2)
-    → let d = content (c .before .before .before .before .before .before) in
+cells-passes : (c : tie.Else1)
+    → let d = content (c .before .before .before .before .before .before .before) in
     Passes (runTests (d .run) andThen TooMany when ltb 64 (length (d .entries)) andThen TooMany when ltb 65536 (cellsOf (d .run)))
 cells-passes c =
-    let run = c .before .before .before .before .before .before .run-of .result in
+    let run = c .before .before .before .before .before .before .before .run-of .result in
     both (few-passes (c .before .before)) (sound (le-ltb 65536 (cellsOf run) (omega (arith, c .before .cells .ensures))))
 
+-- the sources that were counted all have room
+few : (c : tie.After-enum-told2) → c .before .before .before .before .before .before .before .before .before .before .before .read-lines .last .1 .1 .1 .1 .0 ≤ 64
+few c =
+    let l = lines-read (c .before .before .before .before .before .before) .lists in
+    let h = ltb-false 64 (length (l .entries)) (passes-when (passes-then (few-passes c))) in
+    omega (arith, l .counted)
+
 -- the parts of the two lists that are judged
-parts-long : (c : tie.Else2)
-    → let after = c .before .before .before .before .before .before .before .before .before .before .before .before .read-lines .last .1 .1 in
+parts-long : (c : tie.Else1)
+    → let after = c .before .before .before .before .before .before .before .before .before .before .before .before .before .read-lines .last .1 .1 in
     let count = after .1 .1 .0 in
     (length (take count (after .0)) ≡ count) × (length (take count (after .1 .0)) ≡ count)
 parts-long c =
-    let k = c .before .before .before .before .before .before .before .before .before .before .before .before .read-lines .kept .1 .1 in
+    let k = c .before .before .before .before .before .before .before .before .before .before .before .before .before .read-lines .kept .1 .1 in
+    let h = few (c .before .before) in
     (length-take-le _ _ (omega (arith, k .0)), length-take-le _ _ (omega (arith, k .1 .0)))
 
-entries-judged : (c : tie.Else2)
-    → let after = c .before .before .before .before .before .before .before .before .before .before .before .before .read-lines .last .1 .1 in
+entries-judged : (c : tie.Else1)
+    → let after = c .before .before .before .before .before .before .before .before .before .before .before .before .before .read-lines .last .1 .1 in
     let count = after .1 .1 .0 in
-    entriesOf (take count (after .0)) (take count (after .1 .0)) ≡ content (c .before .before .before .before .before .before) .entries
-entries-judged c = entries-stored (lines-read (c .before .before .before .before .before .before .before) .lists) (c .before .before .if1 .left)
+    entriesOf (take count (after .0)) (take count (after .1 .0)) ≡ content (c .before .before .before .before .before .before .before) .entries
+entries-judged c = entries-stored (lines-read (c .before .before .before .before .before .before .before .before) .lists) (few (c .before .before))
 
 slice-aggregate-read-lines : tie.Need-slice-aggregate-read-lines
 slice-aggregate-read-lines c = search needs
@@ -103,6 +118,12 @@ run-of-requires c κs = search needs
 judge-run-requires : tie.Need-judge-run-requires
 judge-run-requires c κs = search needs
 
+judge-count-requires : tie.Need-judge-count-requires
+judge-count-requires c κs = search needs
+
+first-of-requires : tie.Need-first-of-requires
+first-of-requires c κs = search needs
+
 enum-known-number-2 : tie.Need-enum-known-number-2
 enum-known-number-2 c = search needs
 
@@ -110,14 +131,15 @@ refuse-requires-2 : tie.Need-refuse-requires-2
 refuse-requires-2 c κs = search needs
 
 returns-2 : tie.Need-returns-2
-unfolding textTests number
+unfolding textTests
 returns-2 c =
-    let judged = c .before .before .before .before in
-    refuses (formed (judged .before)) (first (first (first (blamed (judged .judge-run .ensures) (c .before .before .number2 .given .1)))))
-    (c .refuse2 .ensures)
+    refuses (formed (c .before .before .before .before .before .before .before)) (first (first (blamed (judged (c .before .before .before .before)) (c .before .before .number2 .given .1)))) (c .refuse2 .ensures)
 
 enum-told-2 : tie.Need-enum-told-2
 enum-told-2 c = search needs
+
+cells-requires : tie.Need-cells-requires
+cells-requires c κs = valid-run (passes-first (few-passes c)) (omega (arith, run-read (c .before .before .before .before .before) .small .1 .0))
 
 refuse-requires-3 : tie.Need-refuse-requires-3
 refuse-requires-3 c κs = search needs
@@ -125,34 +147,19 @@ refuse-requires-3 c κs = search needs
 returns-3 : tie.Need-returns-3
 unfolding textTests number
 returns-3 c =
-    let run = c .before .before .before .before .before in
-    let l = lines-read (run .before) .lists in
-    refuses (formed run)
-    (first (first (then (run-passes (c .before .before)) (broken (lt-ltb 64 (length (l .entries)) (omega (arith, l .counted)))))))
-    (c .refuse3 .ensures)
-
-cells-requires : tie.Need-cells-requires
-cells-requires c κs = valid-run (run-passes (c .before)) (omega (arith, run-read (c .before .before .before .before) .small .1 .0))
-
-refuse-requires-4 : tie.Need-refuse-requires-4
-refuse-requires-4 c κs = search needs
-
-returns-4 : tie.Need-returns-4
-unfolding textTests number
-returns-4 c =
-    let run = c .before .before .before .before .before .before .before in
+    let run = c .before .before .before .before .before .before .before .before in
     refuses (formed run)
     (first (then (few-passes (c .before .before .before)) (broken (lt-ltb 65536 (cellsOf (run .run-of .result)) (omega (arith, c .before .before .cells .ensures))))))
-    (c .refuse4 .ensures)
+    (c .refuse3 .ensures)
 
 array-share-prefix-periods : tie.Need-array-share-prefix-periods
-array-share-prefix-periods c = search needs
+array-share-prefix-periods c = omega (arith, few (c .before .before), c .before .before .before .before .before .before .before .before .before .before .before .before .before .read-lines .kept .1 .1 .0)
 
 slice-aggregate-judge-entries : tie.Need-slice-aggregate-judge-entries
 slice-aggregate-judge-entries c = sym (parts-long (c .before) .0)
 
 array-share-prefix-weights : tie.Need-array-share-prefix-weights
-array-share-prefix-weights c = search needs
+array-share-prefix-weights c = omega (arith, few (c .before .before .before), c .before .before .before .before .before .before .before .before .before .before .before .before .before .before .read-lines .kept .1 .1 .1 .0)
 
 slice-aggregate-judge-entries-2 : tie.Need-slice-aggregate-judge-entries-2
 slice-aggregate-judge-entries-2 c = sym (parts-long (c .before .before) .1)
@@ -163,31 +170,31 @@ judge-entries-requires c κs = parts-long (c .before .before) .0 ∙ sym (parts-
 enum-known-number-3 : tie.Need-enum-known-number-3
 enum-known-number-3 c = search needs
 
-refuse-requires-5 : tie.Need-refuse-requires-5
-refuse-requires-5 c κs = search needs
+refuse-requires-4 : tie.Need-refuse-requires-4
+refuse-requires-4 c κs = search needs
 
-returns-5 : tie.Need-returns-5
+returns-4 : tie.Need-returns-4
 unfolding textTests
-returns-5 c =
-    let judged = c .before .before .before .before in
-    let cells = judged .before .before .before in
-    refuses (formed (cells .before .before .before .before .before .before))
+returns-4 c =
+    let entries = c .before .before .before .before in
+    let cells = entries .before .before .before in
+    refuses (formed (cells .before .before .before .before .before .before .before))
     (then (cells-passes cells)
-    (subst (λ es. Fails (listTests 255 1 es) (c .before .before .number3 .given .0 .0)) (entries-judged cells) (blamed (judged .judge-entries .ensures) (c .before .before .number3 .given .1))))
-    (c .refuse5 .ensures)
+    (subst (λ es. Fails (listTests 255 1 es) (c .before .before .number3 .given .0 .0)) (entries-judged cells) (blamed (entries .judge-entries .ensures) (c .before .before .number3 .given .1))))
+    (c .refuse4 .ensures)
 
 enum-told-3 : tie.Need-enum-told-3
 enum-told-3 c = search needs
 
-returns-6 : tie.Need-returns-6
+returns-5 : tie.Need-returns-5
 unfolding textTests
-returns-6 c =
-    let judged = c .before .before in
-    let cells = judged .before .before .before in
-    let run = cells .before .before .before .before .before .before in
-    accepts (lines-read (run .before) .lists) (cells .before .before .if1 .left) (formed run)
+returns-5 c =
+    let entries = c .before .before in
+    let cells = entries .before .before .before in
+    let run = cells .before .before .before .before .before .before .before in
+    accepts (lines-read (run .before) .lists) (few (cells .before .before)) (formed run)
     (both (cells-passes cells)
-    (subst (λ es. Passes (listTests 255 1 es)) (entries-judged cells) (fine (judged .judge-entries .ensures) (c .enum-told3 .given .1))))
+    (subst (λ es. Passes (listTests 255 1 es)) (entries-judged cells) (fine (entries .judge-entries .ensures) (c .enum-told3 .given .1))))
 
 pub read-text-spec : {M : Type 1} → statement M
 read-text-spec =
@@ -203,22 +210,22 @@ read-text-spec =
     enum-told
     run-of-requires
     judge-run-requires
+    judge-count-requires
+    first-of-requires
     enum-known-number-2
     refuse-requires-2
     returns-2
     enum-told-2
+    cells-requires
     refuse-requires-3
     returns-3
-    cells-requires
-    refuse-requires-4
-    returns-4
     array-share-prefix-periods
     slice-aggregate-judge-entries
     array-share-prefix-weights
     slice-aggregate-judge-entries-2
     judge-entries-requires
     enum-known-number-3
-    refuse-requires-5
-    returns-5
+    refuse-requires-4
+    returns-4
     enum-told-3
-    returns-6)
+    returns-5)
