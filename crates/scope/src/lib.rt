@@ -5,6 +5,7 @@ ghost use Prim.Native.Nat.{_≤_};
 ghost use Rattle.scope.specs.Run.{Valid, IsBlock, cellsOf, shiftOf, toRun, toBlock};
 ghost use Rattle.scope.specs.Refusal.{complaint, windowTests, lineTests, runTests, periodTests, sourceTests};
 ghost use Rattle.scope.specs.Reply.{verdict};
+ghost use Rattle.scope.specs.Verdicts.{firstOf};
 
 // A run: the window's width and the interval in ticks, the first and the last line.
 pub struct Run {
@@ -31,6 +32,16 @@ pub enum Verdict {
     Fine,
     // The number of the first test that was.
     Refused(u8),
+}
+
+// Inner step. The first of two verdicts, unless it is fine: then the second.
+pub fn first_of(first: Verdict, second: Verdict) -> Verdict
+    ensures { λ r. ⌜ r ≡ firstOf first second ⌝ }
+{
+    match first {
+        Verdict::Fine => second,
+        Verdict::Refused(number) => Verdict::Refused(number),
+    }
 }
 
 // Inner step. What 01's table says of a window.

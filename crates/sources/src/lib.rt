@@ -1,22 +1,12 @@
 // Lists of sources: a list of periods with a list of weights, and the tests that every list passes before it is used.
-// Every function is proved. The public ones are inner steps of the crates above.
+// Every function is proved. The public one is an inner step of the crates above.
 use scope::Verdict;
+use scope::first_of;
 ghost use mathlib.Core.Path.{_≡_};
 ghost use lib.ListN.{length};
 ghost use Rattle.sources.specs.Entry.{entriesOf, entryTests, listTests};
-ghost use Rattle.sources.specs.Verdicts.{firstOf};
 ghost use Rattle.scope.specs.Refusal.{complaint, weightTests};
 ghost use Rattle.scope.specs.Reply.{verdict};
-
-// Inner step. The first of two verdicts, unless it is fine: then the second.
-pub fn first_of(first: Verdict, second: Verdict) -> Verdict
-    ensures { λ r. ⌜ r ≡ firstOf first second ⌝ }
-{
-    match first {
-        Verdict::Fine => second,
-        Verdict::Refused(number) => Verdict::Refused(number),
-    }
-}
 
 // What 01's table says of a weight.
 fn judge_weight(weight: u32) -> Verdict

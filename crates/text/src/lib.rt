@@ -224,7 +224,7 @@ pub fn read_text(text: &[u8]) -> Input
     let run = run_of(numbers);
     let of_run = scope::judge_run(run);
     let of_count = judge_count(count);
-    if let Verdict::Refused(number) = sources::first_of(of_run, of_count) {
+    if let Verdict::Refused(number) = scope::first_of(of_run, of_count) {
         return refuse(number);
     }
     if CELLS < scope::cells(run) {

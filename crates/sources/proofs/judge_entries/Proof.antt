@@ -12,9 +12,9 @@ use Rattle.scope.specs.Reply.{verdict}
 use Rattle.scope.specs.declared.Verdict.{Verdict}
 use Rattle.scope.specs.declared.Verdict.the-variants.{Fine}
 use Rattle.sources.specs.Entry.{entriesOf, entryTests, listTests}
-use Rattle.sources.specs.Verdicts.{firstOf}
+use Rattle.scope.specs.Verdicts.{firstOf}
 use Rattle.sources.proofs.Entries.{entry, entries-from}
-use Rattle.sources.proofs.Verdicts.{verdict-then, verdict-source, first-of-three, first-alone}
+use Rattle.scope.proofs.Verdicts.{verdict-then, verdict-source, first-of-three, first-alone}
 use Rattle.sources.proofs.judge_entries.Statement.{statement}
 use Rattle.sources.proofs.judge_entries.Tie as tie
 

@@ -3,7 +3,7 @@ use mathlib.Core.Path.{sym, _∙_}
 use borrow.Author.Needs.{needs}
 use Rattle.scope.specs.Refusal.{periodTests, weightTests}
 use Rattle.sources.specs.Entry.{entryTests}
-use Rattle.sources.proofs.Verdicts.{verdict-then}
+use Rattle.scope.proofs.Verdicts.{verdict-then}
 use Rattle.sources.proofs.judge_entry.Statement.{statement}
 use Rattle.sources.proofs.judge_entry.Tie as tie
 

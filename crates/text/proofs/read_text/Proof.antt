@@ -13,7 +13,7 @@ use Rattle.scope.specs.Reply.{verdict}
 use Rattle.scope.proofs.Judged.{Passes, Fails, broken, sound, first, then, both, fine, blamed}
 use Rattle.scope.proofs.Limits.{passes-when, passes-first, passes-then, valid-run}
 use Rattle.sources.specs.Entry.{entriesOf, listTests}
-use Rattle.sources.proofs.Verdicts.{verdict-then}
+use Rattle.scope.proofs.Verdicts.{verdict-then}
 use Rattle.text.specs.Form.{runWord, runNumbers, Content, Spells}
 use Rattle.text.specs.Promise.{textTests}
 use Rattle.text.specs.Inner.{Line, AllLines, LinesAt}

@@ -1,8 +1,8 @@
--- `sources::first_of` meets its contract, case by case. Assumes nothing.
+-- `scope::first_of` meets its contract, case by case. Assumes nothing.
 use borrow.Author.Needs.{needs}
-use Rattle.sources.specs.Verdicts.{firstOf}
-use Rattle.sources.proofs.first_of.Statement.{statement}
-use Rattle.sources.proofs.first_of.Tie as tie
+use Rattle.scope.specs.Verdicts.{firstOf}
+use Rattle.scope.proofs.first_of.Statement.{statement}
+use Rattle.scope.proofs.first_of.Tie as tie
 
 enum-told : tie.Need-enum-told
 enum-told c = search needs
