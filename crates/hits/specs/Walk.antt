@@ -114,7 +114,7 @@ pub record NextLine (run : Run) (source : Source) (at to : Place) : Type 0 where
 abbrev pub Walks : Walk → Place → Place → Type 0
 Walks walk at to = (run : Run) (source : Source) → Valid run → ValidSource source → Leads run source walk → Stands run source at → NextLine run source at to
 
--- The place is that of the first hit of the line of a hit cell.
+-- The place is on the cell's line, and where the cell is hit it is that of the first hit there.
 pub record Begins (run : Run) (source : Source) (cell : ℕ) (at : Place) : Type 0 where
   pub line : at .cell .0 / run .window ≡ cell / run .window
   pub stands : isHit run source cell ≡ true → Stands run source at

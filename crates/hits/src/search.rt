@@ -49,7 +49,7 @@ fn turns_past(gap: u64, step: u64) -> u64
 // added until the point is n or further right, and then `before` once, which gives the first point nearer than this one.
 fn approach(before: Vector, last: Vector, at: Point, window: u64) -> Point
     requires { ⌜ Approaching before last at window ⌝ }
-    ensures { λ r. ⌜ ((p q : ℕ) → Successive p q before last → Nearer p q last window at r) ⌝ }
+    ensures { λ to. ⌜ ((p r : ℕ) → Successive p r before last → Nearer p r last window at to) ⌝ }
 {
     let m = size(last.offset);
     if at.distance < m {
@@ -75,7 +75,7 @@ fn approach(before: Vector, last: Vector, at: Point, window: u64) -> Point
 // moves, so that its division does not wait for the point's.
 fn seek(first: Vector, second: Vector, start: Point, window: u64, end: u64) -> Found
     requires { ⌜ Seeking first second start window end ⌝ }
-    ensures { λ r. ⌜ ((p q : ℕ) → Successive p q first second → Sought p q window end start r) ⌝ }
+    ensures { λ found. ⌜ ((p r : ℕ) → Successive p r first second → Sought p r window end start found) ⌝ }
 {
     let mut before = first;
     let mut last = second;

@@ -107,7 +107,8 @@ pub fn plan(run: Run, source: Source) -> Walk
     }
 }
 
-// Inner step. The place of the first hit on a hit cell's line; of a cell that is not hit, some place on its line.
+// Inner step. The place whole periods left of a cell, as far left as its line goes: of a hit cell, that of the first hit of its
+// line. The number of cells may be asked with too, where there is no hit.
 pub fn place_of(run: Run, source: Source, cell: RunCell) -> Place
     requires { ⌜ Valid run × ValidSource source × cell .0 ≤ cellsOf run ⌝ }
     ensures { λ r. ⌜ Begins run source (cell .0) r ⌝ }

@@ -24,7 +24,7 @@ inputFrom count (negsuc n) = Failed
 unfoldable pub inputOf : Reading → Input
 inputOf reading = inputFrom (reading .count) (reading .last)
 
--- The text is all of the input, or already longer than "at most 4,096 bytes": what was read, and the last read told the end.
+-- The text has as many bytes as were read; these end with the input, or are more than "at most 4,096 bytes".
 pub record Whole (reading : Reading) (text : List ℕ) : Type 0 where
   pub all : length text ≡ reading .count
   pub ended : reading .count ≤ 4096 → reading .last ≡ pos 0

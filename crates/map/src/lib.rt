@@ -1,5 +1,5 @@
 // The map: every cell's sum of the weights of the sources that hit it, up to 255.
-// Every function is proved. `add_to_map` is the one public operation, and it asks nothing of its caller.
+// Every function is proved. `add_to_map` is the one public operation here, and it asks nothing of its caller.
 use scope::BlockCell;
 use scope::Run;
 use scope::RunCell;

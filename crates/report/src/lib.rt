@@ -1,5 +1,5 @@
 // What the list program prints: a report on a run and its sources, or the refusal.
-// Every function is proved. `report` is the one public operation, and it asks nothing of its caller.
+// Every function is proved. `report` is the one public operation here, and it asks nothing of its caller.
 use hits::Listing;
 use scope::Run;
 use scope::RunCell;

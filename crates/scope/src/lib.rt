@@ -129,7 +129,7 @@ fn block_shift(run: Run, block: Run) -> u64
 }
 
 impl BlockCell {
-    // Inner step. The run's number of a cell of one of its blocks: the block's shift is added.
+    // Inner step. The run's number of a cell of one of its blocks, or of the end of the block: the block's shift is added.
     pub fn in_run(self, run: Run, block: Run) -> RunCell
         requires { ⌜ Valid run × IsBlock run block × Valid block × self .0 ≤ cellsOf block ⌝ }
         ensures { λ r. ⌜ r ≡ toRun run block self ⌝ }

@@ -1,5 +1,5 @@
 // The text that the list program reads: a run and its sources, or the refusal.
-// Every function is proved. `read_text` is the one public operation, and it asks nothing of its caller.
+// Every function is proved. `read_text` is the one public operation here, and it asks nothing of its caller.
 use decimal::Number;
 use scope::Run;
 use scope::Verdict;
@@ -147,7 +147,7 @@ fn read_sources(
     Found::Next(next)
 }
 
-// The lines of a whole text, which is not too long: the numbers of its `run` line, and its sources.
+// The lines of a whole text, the numbers of its `run` line and its sources; a text that is too long is refused.
 fn read_lines(
     text: &[u8],
     numbers: &mut [u32],

@@ -20,7 +20,7 @@ pub const HIT_LEFT: usize = 30;
 pub const NONE_LEFT: usize = 31;
 
 // The number of no cell: something was wrong.
-const WRONG: u64 = 18446744073709551615;
+pub const WRONG: u64 = 18446744073709551615;
 
 // Whether the first hit from a cell on is the first marked cell, and "none" is said exactly if there is none.
 pub fn first_hit_agrees(case: Case, truth: &[u8], start: RunCell) -> bool {

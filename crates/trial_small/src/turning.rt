@@ -1,4 +1,5 @@
 // A block's cells as the run's, by the library's own shift: the block is a run too, and a block of itself, whose cells are not moved.
+use crate::listing;
 use scope::Run;
 use scope::RunCell;
 use scope::Verdict;
@@ -39,5 +40,5 @@ pub fn in_run(run: Run, block: Run, cell: RunCell) -> RunCell {
             return cell.in_block(block, block).in_run(run, block);
         }
     }
-    RunCell(18446744073709551615)
+    RunCell(listing::WRONG)
 }

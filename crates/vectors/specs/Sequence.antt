@@ -1,4 +1,5 @@
--- Document 01, "The sequence of 002", two successive vectors u and v at a time: what the inner steps of `find_basis` go by.
+-- Document 01, "The sequence of 002", two successive vectors u and v at a time: what the inner steps of
+-- `find_basis` and of the search for the first hit go by.
 use mathlib.Core.Path.{_≡_}
 use Prim.Native.Nat.{ℕ, _+_, _-_, _*_, _/_, _≤_, _<_, _^_}
 use lib.IntN.{ℤ, pos, negsuc, negℤ, natAbs, _+ℤ_, _*ℤ_}
