@@ -225,6 +225,18 @@ fn tell_text(reply: Input) -> TextReply
     }
 }
 
+// The run with these four numbers.
+fn run_with(window: u32, interval: u32, first: u32, last: u32) -> Run
+    ensures { λ r. ⌜ r ≡ runWith window interval first last ⌝ }
+{
+    Run {
+        window,
+        interval,
+        first,
+        last,
+    }
+}
+
 // Public operation: `vectors::step_vectors`, its reply in numbers.
 #[no_mangle]
 pub extern "C" fn zenithgong_step_vectors(period: u32, remainder: u32, window: u32) -> StepsReply
@@ -245,12 +257,7 @@ pub extern "C" fn zenithgong_first_hit(
 ) -> FirstHitReply
     ensures { λ r. ⌜ Exported (FirstHitPromise (runWith window interval first last) (sourceWith period) (cellWith start)) tellFirst r ⌝ }
 {
-    let run = Run {
-        window,
-        interval,
-        first,
-        last,
-    };
+    let run = run_with(window, interval, first, last);
     tell_first(hits::first_hit(run, Source { period }, RunCell(start)))
 }
 
@@ -267,12 +274,7 @@ pub extern "C" fn zenithgong_list_hits(
 ) -> ListingReply
     ensures { λ r. ⌜ Exported (λ reply. ListingPromise (runWith window interval first last) (sourceWith period) (cellWith start) (now (room .entry)) reply (now (room .exit))) tellListing r ⌝ }
 {
-    let run = Run {
-        window,
-        interval,
-        first,
-        last,
-    };
+    let run = run_with(window, interval, first, last);
     tell_listing(hits::list_hits(run, Source { period }, RunCell(start), room))
 }
 
@@ -289,12 +291,7 @@ pub extern "C" fn zenithgong_add_to_map(
 ) -> u8
     ensures { λ r. ⌜ Exported (λ reply. MapPromise (runWith window interval first last) (now (periods .entry)) (now (weights .entry)) (now (map .entry)) reply (now (map .exit))) tellAdded r ⌝ }
 {
-    let run = Run {
-        window,
-        interval,
-        first,
-        last,
-    };
+    let run = run_with(window, interval, first, last);
     tell_added(map::add_to_map(run, periods, weights, map))
 }
 
@@ -310,12 +307,7 @@ pub extern "C" fn zenithgong_save(
 ) -> u8
     ensures { λ r. ⌜ Exported (λ reply. SavingPromise (runWith window interval first last) (now (map .entry)) (now (file .entry)) reply (now (file .exit))) tellSaved r ⌝ }
 {
-    let run = Run {
-        window,
-        interval,
-        first,
-        last,
-    };
+    let run = run_with(window, interval, first, last);
     tell_saved(saved::save(run, map, file))
 }
 

@@ -4,6 +4,9 @@ use borrow.Author.Needs.{needs}
 use Rattle.exports.proofs.zenithgong_add_to_map.Statement.{statement}
 use Rattle.exports.proofs.zenithgong_add_to_map.Tie as tie
 
+run-with-requires : tie.Need-run-with-requires
+run-with-requires c κs = search needs
+
 add-to-map-requires : tie.Need-add-to-map-requires
 add-to-map-requires c κs = search needs
 
@@ -13,9 +16,11 @@ tell-added-requires c κs = search needs
 same-length : tie.Need-same-length
 same-length c = search needs
 
+-- the run of the call is the one with the four numbers
 returns : tie.Need-returns
-returns c = record { reply = _; promised = c .before .before .before .add-to-map .ensures; tells = c .tell-added .ensures }
+returns c =
+    let called = c .before .before .before in
+    record { reply = _; promised = rw (called .before .before .run-with .ensures) at (called .add-to-map .ensures); tells = c .tell-added .ensures }
 
 pub zenithgong-add-to-map-spec : {M : Type 1} → statement M
-zenithgong-add-to-map-spec =
-    tie.close (tie.spec add-to-map-requires tell-added-requires same-length returns)
+zenithgong-add-to-map-spec = tie.close (tie.spec run-with-requires add-to-map-requires tell-added-requires same-length returns)

@@ -4,14 +4,20 @@ use borrow.Author.Needs.{needs}
 use Rattle.exports.proofs.zenithgong_first_hit.Statement.{statement}
 use Rattle.exports.proofs.zenithgong_first_hit.Tie as tie
 
+run-with-requires : tie.Need-run-with-requires
+run-with-requires c κs = search needs
+
 first-hit-requires : tie.Need-first-hit-requires
 first-hit-requires c κs = search needs
 
 tell-first-requires : tie.Need-tell-first-requires
 tell-first-requires c κs = search needs
 
+-- the run of the call is the one with the four numbers
 returns : tie.Need-returns
-returns c = record { reply = _; promised = c .before .first-hit .ensures; tells = c .tell-first .ensures }
+returns c =
+    let called = c .before in
+    record { reply = _; promised = rw (called .before .run-with .ensures) at (called .first-hit .ensures); tells = c .tell-first .ensures }
 
 pub zenithgong-first-hit-spec : {M : Type 1} → statement M
-zenithgong-first-hit-spec = tie.close (tie.spec first-hit-requires tell-first-requires returns)
+zenithgong-first-hit-spec = tie.close (tie.spec run-with-requires first-hit-requires tell-first-requires returns)
