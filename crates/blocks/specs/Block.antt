@@ -51,6 +51,5 @@ sealedWith k block = cond (eqb (fourAt block 0) k) (eqb (fourAt block 508) (chec
 -- "14: wrong block number or check", "15: .. filling not as laid down", of block k if it is to hold so many bytes before the filling.
 unfoldable pub blockTests : ℕ → ℕ → List ℕ → Tests
 blockTests k size block =
-    Check when not (eqb (fourAt block 0) k) andThen
-    Check when not (eqb (fourAt block 508) (checkOf block)) andThen
+    Check when not (sealedWith k block) andThen
     Layout when not (allZero (drop size (contents block)))

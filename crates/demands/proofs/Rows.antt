@@ -3,8 +3,8 @@ use Prim.Native.Nat.{ℕ, zero, suc, _+_, _-_, _*_, _%_, _≤_, _<_}
 use native.Mathlib.Omega.{arith}
 use native.Mathlib.Decide.{decLt, ℕ-discrete}
 use mathlib.Core.Path.{_≡_, refl, sym, ap, _∙_}
-use mathlib.Core.Logic.{_↔_, _≢_}
-use mathlib.Core.Bool.{true, not, false≢true}
+use mathlib.Core.Logic.{_↔_, _⊎_, _≢_, inl, inr, ⊎-elim}
+use mathlib.Core.Bool.{true, false, not, false≢true}
 use mathlib.Core.List.{List, [], _∷_}
 use lib.Dec.{ltb, leb, eqb}
 use lib.ListN.{length, getD, take, drop, length-take, List·getD-eq-default}
@@ -14,12 +14,14 @@ use Rattle.scope.specs.declared.Run.{Run}
 use Rattle.scope.specs.declared.Source.{Source}
 use Rattle.scope.specs.declared.RunCell.{RunCell}
 use Rattle.scope.specs.Run.{cellsOf}
-use Rattle.scope.specs.Refusal.{_when_, _andThen_, Check, number, windowTests, lineTests, runTests, periodTests, sourceTests, weightTests}
+use Rattle.scope.specs.Refusal.{number, windowTests, lineTests, runTests, periodTests, sourceTests, weightTests}
 use Rattle.sources.specs.Entry.{Entry, entriesOf, entryTests, listTests}
 use Rattle.vectors.specs.Promise.{vectorsTests}
 use Rattle.hits.specs.Promise.{firstHitTests, listingTests}
 use Rattle.map.specs.Map.{mapTests}
-use Rattle.blocks.specs.Block.{fourAt, checkOf, contents, allZero, blockTests}
+use Rattle.scope.proofs.Hits.{hit-or-miss}
+use Rattle.blocks.specs.Block.{fourAt, contents, allZero, sealedWith, blockTests}
+use Rattle.blocks.proofs.Differs.{sealed-right}
 use Rattle.saved.specs.File.{blockAt, runOf, blocksFor, fileLength, savingTests, headingTests, cellBlocksTests, fileTests, readingTests}
 use Rattle.text.specs.Form.{Content}
 use Rattle.text.specs.Promise.{textTests}
@@ -142,22 +144,29 @@ unfolding savingTests number
 saving-rows run map room =
     then-two (run-rows run next either (one (unequal (length map) (cellsOf run))) (one (unequal (length room) (fileLength (cellsOf run)))))
 
--- the number and the check of a block
-check-row : (k : ℕ) (block : List ℕ) → Renders (Check when not (eqb (fourAt block 0) k) andThen Check when not (eqb (fourAt block 508) (checkOf block))) (14 given BadCheck k block ∷ [])
-unfolding number
-check-row k block = either (one (unequal (fourAt block 0) k)) (one (unequal (fourAt block 508) (checkOf block)))
+-- the number or the check of a block is wrong
+not-sealed : (k : ℕ) (block : List ℕ) → (not (sealedWith k block) ≡ true) ↔ BadCheck k block
+not-sealed k block = (λ e. to (ℕ-discrete (fourAt block 0) k) (not-true (sealedWith k block) e), λ bad. from bad (hit-or-miss (sealedWith k block)))
+  where
+    to : Dec (fourAt block 0 ≡ k) → sealedWith k block ≡ false → BadCheck k block
+    to (yes number) e = inr (λ check. false≢true (sym e ∙ sealed-right k block .1 (number, check)))
+    to (no n) e = inl n
+
+    from : BadCheck k block → (sealedWith k block ≡ true) ⊎ (sealedWith k block ≡ false) → not (sealedWith k block) ≡ true
+    from bad (inl e) = let right = sealed-right k block .0 e in absurd (⊎-elim (λ n. n (right .0)) (λ n. n (right .1)) bad)
+    from bad (inr e) = ap not e
 
 heading-rows : (block : List ℕ) → Renders (headingTests block) (14 given BadCheck 0 block ∷ 15 given BadHeading block ∷ [])
 unfolding headingTests blockTests contents number
 heading-rows block =
-    then-three (check-row 0 block next either (either (one (not-zero block 4 20 504)) (one (unequal (getD block 4 0) 1))) (one (not-zero block 5 0 3)))
+    then-three (one (not-sealed 0 block) next either (either (one (not-zero block 4 20 504)) (one (unequal (getD block 4 0) 1))) (one (not-zero block 5 0 3)))
 
 blocks-rows : (cells : ℕ) (file : List ℕ) (n : ℕ) → Renders (cellBlocksTests cells file n) (blocksTable cells file n)
 unfolding cellBlocksTests blockTests contents number
 blocks-rows cells file zero = no-rows
 blocks-rows cells file (suc k) =
     let block = blockAt file (suc k) in
-    blocks-rows cells file k next (check-row (suc k) block next one (not-zero block 4 (cells - 504 * k) 504))
+    blocks-rows cells file k next (one (not-sealed (suc k) block) next one (not-zero block 4 (cells - 504 * k) 504))
 
 -- "Reading: 13 for whole blocks, then block 0 for 14 and 15, then 1, 2, 3, 13 for the count, then the other blocks .., then 9."
 pub reading-rows : (file map : List ℕ) → Renders (readingTests file map) (readingTable file map)

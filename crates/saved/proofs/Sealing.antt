@@ -1,6 +1,6 @@
 -- A block passes its tests exactly if it is the block that is laid down. Assumes nothing.
 use Prim.Native.Nat.{ℕ, _+_, _-_, _*_, _/_, _%_, _≤_, _<_}
-use mathlib.Core.Path.{_≡_, refl, sym, ap, _∙_}
+use mathlib.Core.Path.{_≡_, sym, ap, _∙_}
 use mathlib.Core.Bool.{true, not}
 use mathlib.Core.List.{List, [], _∷_, _++_, append-assoc, append-nil}
 use native.Mathlib.Nat.{add-zero, le-of-eq}
@@ -15,7 +15,7 @@ use Rattle.scope.proofs.Limits.{passes-first, passes-then, passes-when}
 use Rattle.blocks.proofs.Filling.{all-zero-behind, all-zero-replicate}
 use Rattle.saved.proofs.Bytes.{bytes-take, bytes-drop, bytes-append, bytes-four, bytes-filled, check-small}
 use Rattle.blocks.proofs.Block.{length-four, length-filled, length-front, check-front}
-use Rattle.blocks.proofs.Differs.{agrees, same}
+use Rattle.blocks.proofs.Differs.{sealed-right}
 
 -- a number that was written is read
 pub four-read : (n : ℕ) (rest : List ℕ) → n < 4294967296 → fourAt (four n ++ rest) 0 ≡ n
@@ -90,7 +90,7 @@ module _ (k : ℕ) (bytes : List ℕ) where
   unfolding blockTests
   block-passes size h b l =
       both
-      (both (sound (agrees refl refl (block-number h))) (sound (agrees refl refl (block-check b))))
+      (sound (ap not (sealed-right k (blockOf k bytes) .1 (block-number h, block-check b))))
       (sound (ap (λ x. not (allZero (drop size x))) block-contents ∙ ap not (block-filling size l)))
 
 -- bytes whose rest is zero are their front, filled up
@@ -105,8 +105,7 @@ filled-front l size e z =
 pub block-is : (k size : ℕ) (block : List ℕ) → length block ≡ 512 → Within 255 block → Passes (blockTests k size block) → block ≡ blockOf k (take size (contents block))
 unfolding blockTests blockOf sealed contents
 block-is k size block l b p =
-    let number : fourAt block 0 ≡ k = same _ _ (passes-first (passes-first p)) in
-    let check : fourAt block 508 ≡ checkOf block = same _ _ (passes-then (passes-first p)) in
+    let (number, check) = sealed-right k block .0 (not-false _ (passes-when (passes-first p))) in
     let inner : length (take 504 (drop 4 block)) ≡ 504 = simp (length-take, length-drop) (omega arith) in
     let held = filled-front (contents block) size inner (not-false _ (passes-when (passes-then p))) in
     let front : take 508 block ≡ four k ++ filled (take size (contents block)) =
