@@ -50,39 +50,36 @@ refusalIn (refused n) = n
 refusalIn (answered s) = 0
 
 -- what a reply says and the table says, in numbers
-tells-said : {S : Type 0} {Table : ℕ → Type 0} (said : Said S) → ((n : ℕ) → (said ≡ refused n) ↔ Table n) → ((n : ℕ) → Table n → 1 ≤ n) → Tells Table (refusalIn said)
-tells-said (refused m) is some = record {
+number-by-table : {S : Type 0} {Table : ℕ → Type 0} (said : Said S) → ((n : ℕ) → (said ≡ refused n) ↔ Table n) → ((n : ℕ) → Table n → 1 ≤ n) → Tells Table (refusalIn said)
+number-by-table (refused m) is some = record {
   refuses = λ n. (λ h. is n .0 (ap refused (h .0)), λ t. let e = is n .1 t in (cc, some n t));
   accepts = (λ e. absurd (let h = some m (is m .0 refl) in omega arith), λ none. absurd (none m (is m .0 refl)));
 }
-tells-said (answered s) is some = record {
+number-by-table (answered s) is some = record {
   refuses = λ n. (λ h. absurd (omega arith), λ t. absurd (let e = is n .1 t in let z : _≡_ {A = ℕ} 0 1 = cc in omega arith));
   accepts = (λ e n t. let r = is n .1 t in let z : _≡_ {A = ℕ} 0 1 = cc in omega arith, λ none. refl);
 }
 
 -- a number that is not 0 is a refusal's
-said-refused : {S : Type 0} (said : Said S) → refusalIn said ≢ 0 → said ≡ refused (refusalIn said)
-said-refused (refused n) some = refl
-said-refused (answered s) some = absurd (some refl)
+refusal-said : {S : Type 0} (said : Said S) → refusalIn said ≢ 0 → said ≡ refused (refusalIn said)
+refusal-said (refused n) some = refl
+refusal-said (answered s) some = absurd (some refl)
 
--- an answer tells a reply: its refusal is the number of what the reply says
-record Telling {A B S : Type 0} (told : A → B) (refusalOf : B → ℕ) (says : A → Said S) : Type 0 where
-  refusal-in : (reply : A) → refusalOf (told reply) ≡ refusalIn (says reply)
-
-module _ {A B S : Type 0} {Promise : A → Type 0} {told : A → B} {answer : B} {refusalOf : B → ℕ} {says : A → Said S} (telling : Telling told refusalOf says) (e : Exported Promise told answer) where
+-- an answer that tells a reply, and its refusal, which is the number of what the reply says
+module _ {A B S : Type 0} {Promise : A → Type 0} {told : A → B} {answer : B} (e : Exported Promise told answer) (refusalOf : B → ℕ) (says : A → Said S) (field : (reply : A) → refusalOf (told reply) ≡ refusalIn (says reply)) where
   refusal-is : refusalOf answer ≡ refusalIn (says (e .reply))
-  refusal-is = ap refusalOf (e .tells) ∙ telling .refusal-in (e .reply)
+  refusal-is = ap refusalOf (e .is) ∙ field (e .reply)
 
   refused-with : refusalOf answer ≢ 0 → says (e .reply) ≡ refused (refusalOf answer)
-  refused-with some = said-refused (says (e .reply)) (λ z. some (refusal-is ∙ z)) ∙ ap refused (sym refusal-is)
+  refused-with some = refusal-said (says (e .reply)) (λ z. some (refusal-is ∙ z)) ∙ ap refused (sym refusal-is)
 
   -- "Bad input gets the refusal number .. exactly when its table says so"
-  tells : {Table : ℕ → Type 0} → ((reply : A) → Promise reply → (n : ℕ) → (says reply ≡ refused n) ↔ Table n) → ((n : ℕ) → Table n → 1 ≤ n) → Tells Table (refusalOf answer)
-  tells exactly some = rw refusal-is (tells-said (says (e .reply)) (exactly (e .reply) (e .promised)) some)
+  by-table : {Table : ℕ → Type 0} → ((reply : A) → Promise reply → (n : ℕ) → (says reply ≡ refused n) ↔ Table n) → ((n : ℕ) → Table n → 1 ≤ n) → Tells Table (refusalOf answer)
+  by-table exactly some = rw refusal-is (number-by-table (says (e .reply)) (exactly (e .reply) (e .promised)) some)
 
   -- "A refused call answers with the number alone"
   alone : (Refused : ℕ → A) → ((reply : A) → Promise reply → (n : ℕ) → says reply ≡ refused n → reply ≡ Refused n) → refusalOf answer ≢ 0 → answer ≡ told (Refused (refusalOf answer))
-  alone Refused only some = e .tells ∙ ap told (only (e .reply) (e .promised) (refusalOf answer) (refused-with some))
+  alone Refused only some = e .is ∙ ap told (only (e .reply) (e .promised) (refusalOf answer) (refused-with some))
 
   -- "and stores nothing in anything lent"
   kept : {Kept : Type 0} → ((reply : A) → Promise reply → (n : ℕ) → says reply ≡ refused n → Kept) → refusalOf answer ≢ 0 → Kept
@@ -95,9 +92,6 @@ steps-field (Pair left right) = refl
 steps-field (Single only) = refl
 steps-field (Refused·steps n) = refl
 
-steps-told : Telling tellSteps (λ a. a .refusal) saysVectors
-steps-told = record { refusal-in = steps-field }
-
 steps-only : (r : Steps) (n : ℕ) → saysVectors r ≡ refused n → r ≡ Refused·steps n
 steps-only (Pair left right) n e = cc
 steps-only (Single only) n e = cc
@@ -107,9 +101,6 @@ first-field : (r : FirstHit) → tellFirst r .refusal ≡ refusalIn (saysFirstHi
 first-field (At cell) = refl
 first-field Nothing = refl
 first-field (Refused·first n) = refl
-
-first-told : Telling tellFirst (λ a. a .refusal) saysFirstHit
-first-told = record { refusal-in = first-field }
 
 first-only : (r : FirstHit) (n : ℕ) → saysFirstHit r ≡ refused n → r ≡ Refused·first n
 first-only (At cell) n e = cc
@@ -121,9 +112,6 @@ listing-field (Done·listing m) = refl
 listing-field (More m cell) = refl
 listing-field (Refused·listing n) = refl
 
-listing-told : Telling tellListing (λ a. a .refusal) saysListing
-listing-told = record { refusal-in = listing-field }
-
 listing-only : (r : Listing) (n : ℕ) → saysListing r ≡ refused n → r ≡ Refused·listing n
 listing-only (Done·listing m) n e = cc
 listing-only (More m cell) n e = cc
@@ -133,22 +121,13 @@ added-field : (r : Added) → tellAdded r ≡ refusalIn (saysMap r)
 added-field Done·added = refl
 added-field (Refused·added n) = refl
 
-added-told : Telling tellAdded (λ n. n) saysMap
-added-told = record { refusal-in = added-field }
-
 saved-field : (r : Saved) → tellSaved r ≡ refusalIn (saysSaving r)
 saved-field Done·saved = refl
 saved-field (Refused·saved n) = refl
 
-saved-told : Telling tellSaved (λ n. n) saysSaving
-saved-told = record { refusal-in = saved-field }
-
 loaded-field : (r : Loaded) → tellLoaded r .refusal ≡ refusalIn (saysReading r)
 loaded-field (Of run) = refl
 loaded-field (Refused·loaded n) = refl
-
-loaded-told : Telling tellLoaded (λ a. a .refusal) saysReading
-loaded-told = record { refusal-in = loaded-field }
 
 loaded-only : (r : Loaded) (n : ℕ) → saysReading r ≡ refused n → r ≡ Refused·loaded n
 loaded-only (Of run) n e = cc
@@ -158,64 +137,64 @@ answer-field : (r : Answer) → tellAnswer r .refusal ≡ refusalIn (saysText r)
 answer-field (Read run) = refl
 answer-field (Refused·text n) = refl
 
-text-told : Telling tellText (λ a. a .run .refusal) (λ input. saysText (input .answer))
-text-told = record { refusal-in = λ input. answer-field (input .answer) }
+text-field : (input : Input) → tellText input .run .refusal ≡ refusalIn (saysText (input .answer))
+text-field input = answer-field (input .answer)
 
 -- ---- the seven functions
 
 -- `zenithgong_step_vectors`. (Nothing is lent.)
 module _ (p r I : ℕ) {a : StepsReply} (e : Exported (VectorsPromise p r I) tellSteps a) where
   pub exported-vectors-refused : Tells (Says (vectorsTable p r I)) (a .refusal)
-  exported-vectors-refused = tells steps-told e (vectors-refused p r I) (said-some (vectors-rows p r I))
+  exported-vectors-refused = by-table e (λ a. a .refusal) saysVectors steps-field (vectors-refused p r I) (said-some (vectors-rows p r I))
 
   pub exported-vectors-alone : a .refusal ≢ 0 → a ≡ tellSteps (Refused·steps (a .refusal))
-  exported-vectors-alone = alone steps-told e Refused·steps (λ r h. steps-only r)
+  exported-vectors-alone = alone e (λ a. a .refusal) saysVectors steps-field Refused·steps (λ r h. steps-only r)
 
 module _ (run : Run) (source : Source) (start : RunCell) where
   -- `zenithgong_first_hit`. (Nothing is lent.)
   module _ {a : FirstHitReply} (e : Exported (FirstHitPromise run source start) tellFirst a) where
     pub exported-first-hit-refused : Tells (Says (firstHitTable run source start)) (a .refusal)
-    exported-first-hit-refused = tells first-told e (first-hit-refused run source start) (said-some (first-hit-rows run source start))
+    exported-first-hit-refused = by-table e (λ a. a .refusal) saysFirstHit first-field (first-hit-refused run source start) (said-some (first-hit-rows run source start))
 
     pub exported-first-hit-alone : a .refusal ≢ 0 → a ≡ tellFirst (Refused·first (a .refusal))
-    exported-first-hit-alone = alone first-told e Refused·first (λ r h. first-only r)
+    exported-first-hit-alone = alone e (λ a. a .refusal) saysFirstHit first-field Refused·first (λ r h. first-only r)
 
   -- `zenithgong_list_hits`
   module _ (room : List ℕ) {after : List ℕ} {a : ListingReply} (e : Exported (λ r. ListingPromise run source start room r after) tellListing a) where
     pub exported-listing-refused : Tells (Says (listingTable run source start room)) (a .refusal)
-    exported-listing-refused = tells listing-told e (λ r h. listing-refused run source start room r after h) (said-some (listing-rows run source start room))
+    exported-listing-refused = by-table e (λ a. a .refusal) saysListing listing-field (λ r h. listing-refused run source start room r after h) (said-some (listing-rows run source start room))
 
     pub exported-listing-keeps : a .refusal ≢ 0 → (a ≡ tellListing (Refused·listing (a .refusal))) × (after ≡ room)
     exported-listing-keeps some = (
-      alone listing-told e Refused·listing (λ r h. listing-only r) some,
-      kept listing-told e (λ r h. listing-keeps run source start room r after h) some,
+      alone e (λ a. a .refusal) saysListing listing-field Refused·listing (λ r h. listing-only r) some,
+      kept e (λ a. a .refusal) saysListing listing-field (λ r h. listing-keeps run source start room r after h) some,
     )
 
 -- `zenithgong_add_to_map`, whose answer is the refusal
 module _ (run : Run) (periods weights map : List ℕ) {after : List ℕ} {a : ℕ} (e : Exported (λ r. MapPromise run periods weights map r after) tellAdded a) where
   pub exported-map-refused : Tells (Says (mapTable run periods weights map)) a
-  exported-map-refused = tells added-told e (λ r h. map-refused run periods weights map r after h) (said-some (map-rows run periods weights map))
+  exported-map-refused = by-table e (λ n. n) saysMap added-field (λ r h. map-refused run periods weights map r after h) (said-some (map-rows run periods weights map))
 
   pub exported-map-keeps : a ≢ 0 → after ≡ map
-  exported-map-keeps = kept added-told e (λ r h. map-keeps run periods weights map r after h)
+  exported-map-keeps = kept e (λ n. n) saysMap added-field (λ r h. map-keeps run periods weights map r after h)
 
 -- `zenithgong_save`, whose answer is the refusal
 module _ (run : Run) (map room : List ℕ) {after : List ℕ} {a : ℕ} (e : Exported (λ r. SavingPromise run map room r after) tellSaved a) where
   pub exported-saving-refused : Tells (Says (savingTable run map room)) a
-  exported-saving-refused = tells saved-told e (λ r h. saving-refused run map room r after h) (said-some (saving-rows run map room))
+  exported-saving-refused = by-table e (λ n. n) saysSaving saved-field (λ r h. saving-refused run map room r after h) (said-some (saving-rows run map room))
 
   pub exported-saving-keeps : a ≢ 0 → after ≡ room
-  exported-saving-keeps = kept saved-told e (λ r h. saving-keeps run map room r after h)
+  exported-saving-keeps = kept e (λ n. n) saysSaving saved-field (λ r h. saving-keeps run map room r after h)
 
 -- `zenithgong_read`
 module _ (file map : List ℕ) {after : List ℕ} {a : RunReply} (e : Exported (λ r. ReadingPromise file map r after) tellLoaded a) where
   pub exported-reading-refused : Tells (Says (readingTable file map)) (a .refusal)
-  exported-reading-refused = tells loaded-told e (λ r h. reading-refused file map r after h) (said-some (reading-rows file map))
+  exported-reading-refused = by-table e (λ a. a .refusal) saysReading loaded-field (λ r h. reading-refused file map r after h) (said-some (reading-rows file map))
 
   pub exported-reading-keeps : a .refusal ≢ 0 → (a ≡ tellLoaded (Refused·loaded (a .refusal))) × (after ≡ map)
   exported-reading-keeps some = (
-    alone loaded-told e Refused·loaded (λ r h. loaded-only r) some,
-    kept loaded-told e (λ r h. reading-keeps file map r after h) some,
+    alone e (λ a. a .refusal) saysReading loaded-field Refused·loaded (λ r h. loaded-only r) some,
+    kept e (λ a. a .refusal) saysReading loaded-field (λ r h. reading-keeps file map r after h) some,
   )
 
 -- `zenithgong_read_text`. (Nothing is lent.)
@@ -225,7 +204,7 @@ module _ (text : List ℕ) {a : TextReply} (e : Exported (TextPromise text) tell
   text-some n (inr h) = said-some (text-rows (h .0)) n (h .2)
 
   pub exported-text-refused : Tells (SaysOfText text) (a .run .refusal)
-  exported-text-refused = tells text-told e (text-refused text) text-some
+  exported-text-refused = by-table e (λ a. a .run .refusal) (λ input. saysText (input .answer)) text-field (text-refused text) text-some
 
   pub exported-text-alone : a .run .refusal ≢ 0 → a ≡ tellText (refusal (a .run .refusal))
-  exported-text-alone = alone text-told e refusal (text-refused-alone text)
+  exported-text-alone = alone e (λ a. a .run .refusal) (λ input. saysText (input .answer)) text-field refusal (text-refused-alone text)

@@ -26,7 +26,7 @@ use Rattle.exports.specs.Replies.{tellSteps, tellFirst, tellListing, tel
 
 -- Where no second reply fits, no second answer does. (Two promises: of what is lent, each may name what it holds afterwards.)
 pub answer-unique : {A B : Type 0} {Promise Other : A → Type 0} {told : A → B} {a b : B} → ((r s : A) → Promise r → Other s → r ≡ s) → Exported Promise told a → Exported Other told b → a ≡ b
-answer-unique {told = told} unique x y = x .tells ∙ ap told (unique (x .reply) (y .reply) (x .promised) (y .promised)) ∙ sym (y .tells)
+answer-unique {told = told} unique x y = x .is ∙ ap told (unique (x .reply) (y .reply) (x .promised) (y .promised)) ∙ sym (y .is)
 
 -- `zenithgong_step_vectors`: one answer.
 pub exported-vectors-unique : (p r I : ℕ) {a b : StepsReply} → Exported (VectorsPromise p r I) tellSteps a → Exported (VectorsPromise p r I) tellSteps b → a ≡ b

@@ -5,4 +5,4 @@ use mathlib.Core.Path.{_≡_}
 pub record Exported {A B : Type 0} (Promise : A → Type 0) (told : A → B) (numbers : B) : Type 0 where
   pub reply : A
   pub promised : Promise reply
-  pub tells : numbers ≡ told reply
+  pub is : numbers ≡ told reply

@@ -20,7 +20,7 @@ same-length c = search needs
 returns : tie.Need-returns
 returns c =
     let called = c .before .before .before in
-    record { reply = _; promised = rw (called .before .before .run-with .ensures) at (called .add-to-map .ensures); tells = c .tell-added .ensures }
+    record { reply = _; promised = rw (called .before .before .run-with .ensures) at (called .add-to-map .ensures); is = c .tell-added .ensures }
 
 pub zenithgong-add-to-map-spec : {M : Type 1} → statement M
 zenithgong-add-to-map-spec = tie.close (tie.spec run-with-requires add-to-map-requires tell-added-requires same-length returns)

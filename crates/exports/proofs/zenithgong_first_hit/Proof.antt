@@ -17,7 +17,7 @@ tell-first-requires c κs = search needs
 returns : tie.Need-returns
 returns c =
     let called = c .before in
-    record { reply = _; promised = rw (called .before .run-with .ensures) at (called .first-hit .ensures); tells = c .tell-first .ensures }
+    record { reply = _; promised = rw (called .before .run-with .ensures) at (called .first-hit .ensures); is = c .tell-first .ensures }
 
 pub zenithgong-first-hit-spec : {M : Type 1} → statement M
 zenithgong-first-hit-spec = tie.close (tie.spec run-with-requires first-hit-requires tell-first-requires returns)

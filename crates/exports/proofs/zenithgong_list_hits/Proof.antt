@@ -20,7 +20,7 @@ same-length c = search needs
 returns : tie.Need-returns
 returns c =
     let called = c .before .before .before in
-    record { reply = _; promised = rw (called .before .before .run-with .ensures) at (called .list-hits .ensures); tells = c .tell-listing .ensures }
+    record { reply = _; promised = rw (called .before .before .run-with .ensures) at (called .list-hits .ensures); is = c .tell-listing .ensures }
 
 pub zenithgong-list-hits-spec : {M : Type 1} → statement M
 zenithgong-list-hits-spec = tie.close (tie.spec run-with-requires list-hits-requires tell-listing-requires same-length returns)

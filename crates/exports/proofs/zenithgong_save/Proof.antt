@@ -20,7 +20,7 @@ same-length c = search needs
 returns : tie.Need-returns
 returns c =
     let called = c .before .before .before in
-    record { reply = _; promised = rw (called .before .before .run-with .ensures) at (called .save .ensures); tells = c .tell-saved .ensures }
+    record { reply = _; promised = rw (called .before .before .run-with .ensures) at (called .save .ensures); is = c .tell-saved .ensures }
 
 pub zenithgong-save-spec : {M : Type 1} → statement M
 zenithgong-save-spec = tie.close (tie.spec run-with-requires save-requires tell-saved-requires same-length returns)
