@@ -6,7 +6,7 @@ use native.Mathlib.Omega.{arith}
 use mathlib.Core.Path.{_≡_, refl, sym, ap, _∙_}
 use mathlib.Core.Logic.{_⊎_, inl, inr}
 use mathlib.Core.Bool.{true, false}
-use mathlib.Core.List.{List, [], _∷_, _++_}
+use mathlib.Core.List.{List, [], _∷_, _++_, map-append}
 use mathlib.Core.Option.{Option, some, none}
 use lib.ListN.{length, take, drop, length-take, length-drop, take-append-drop}
 use lib.Seq.{take-at}
@@ -27,7 +27,6 @@ use Rattle.hits.specs.declared.Listing.the-variants.{Done, More, Refused}
 use Rattle.hits.specs.Promise.{firstHitTests, listingTests, first, Listed, saysListing, listed, written, ListingPromise}
 use Rattle.demands.specs.FirstHit.{IsFirstHit}
 use Rattle.demands.specs.Listing.{Chain, done, more, blockCells, listOf, callsOf, Mores, none-yet, one-more, Lends}
-use Rattle.demands.proofs.CellLists.{block-append}
 use Rattle.demands.proofs.FirstHits.{first-is}
 use Rattle.demands.proofs.SomeReply.{listing-exists}
 
@@ -150,7 +149,7 @@ chain-lists {block} {source} {start} (more room after n next promise rest) =
     let l = left promise in
     let hits = hitsFrom block source (start .0) in
     let both : take n after ++ hitsFrom block source (next .0) ≡ hits = rw (l .wrote, ← l .rest) (take-append-drop (length room) hits) in
-    ap (λ (cells : List BlockCell). blockCells (take n after) ++ cells) (chain-lists rest) ∙ sym (block-append (take n after) (hitsFrom block source (next .0))) ∙ ap blockCells both
+    ap (λ (cells : List BlockCell). blockCells (take n after) ++ cells) (chain-lists rest) ∙ sym (map-append (λ x. record { 0 = x }) (take n after) (hitsFrom block source (next .0))) ∙ ap blockCells both
 
 -- A chain has no more calls than there are hits, or one if there are none.
 pub few-calls : {block : Run} {source : Source} {start : RunCell} (chain : Chain block source start) → callsOf chain ≤ max 1 (length (hitsFrom block source (start .0)))

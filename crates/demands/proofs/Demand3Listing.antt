@@ -6,7 +6,7 @@ use Prim.Native.Nat.{ℕ, suc, _≤_, _<_, max}
 use native.Mathlib.Omega.{arith}
 use mathlib.Core.Path.{_≡_, refl, sym, ap, ap₂, _∙_, subst}
 use mathlib.Core.Logic.{_↔_}
-use mathlib.Core.List.{List, [], _∷_, _++_, map, List·Memᴰ, List·Memᴰ·head, List·Memᴰ·tail}
+use mathlib.Core.List.{List, [], _∷_, _++_, map, map-append, List·Memᴰ, List·Memᴰ·head, List·Memᴰ·tail}
 use lib.ListN.{length, length-map}
 use lib.IntN.{ℤ}
 use Rattle.scope.specs.declared.Run.{Run}
@@ -22,7 +22,7 @@ use Rattle.hits.specs.declared.Listing.the-variants.{Done, More, Refused}
 use Rattle.hits.specs.Promise.{ListingPromise}
 use Rattle.demands.specs.Cut.{Cut}
 use Rattle.demands.specs.Listing.{Chain, runCells, listOf, callsOf, Mores, Lends, Answered, Listings, LendsEach, joined, InOrder, EveryHitOnce}
-use Rattle.demands.proofs.CellLists.{numbersOf, run-append, turned, numbered, cell-member, number-member}
+use Rattle.demands.proofs.CellLists.{numbersOf, turned, numbered, cell-member, number-member}
 use Rattle.demands.proofs.Chains.{chain-lists, few-calls, few-mores, goes-inside, not-refused, lent-exists}
 use Rattle.demands.proofs.Cuts.{cut-valid}
 use Rattle.demands.proofs.CutHits.{moved, blockHits, cut-hits}
@@ -33,7 +33,7 @@ joined-blocks : (run : Run) (source : Source) (blocks : List Run) (lists : Listi
 joined-blocks run source [] lists = refl
 joined-blocks run source (block ∷ blocks) lists =
     let here : map (toRun run block) (listOf (lists .0)) ≡ runCells (moved run block (hitsFrom block source 0)) = ap (map (toRun run block)) (chain-lists (lists .0)) ∙ turned run block (hitsFrom block source 0) in
-    ap₂ (λ (a b : List RunCell). a ++ b) here (joined-blocks run source blocks (lists .1)) ∙ sym (run-append (moved run block (hitsFrom block source 0)) (blockHits run source blocks))
+    ap₂ (λ (a b : List RunCell). a ++ b) here (joined-blocks run source blocks (lists .1)) ∙ sym (map-append (λ x. record { 0 = x }) (moved run block (hitsFrom block source 0)) (blockHits run source blocks))
 
 -- For every valid run, every cut of it and whatever chain of calls in each block: the joined lists are the list of the run's hits.
 pub joined-is : (run : Run) (source : Source) (blocks : List Run) → Valid run → Cut run blocks → (lists : Listings source blocks) → joined run source blocks lists ≡ runCells (hitsFrom run source 0)
