@@ -1,6 +1,7 @@
 -- Document 01, "How much each promise says": "For every input, refusals too, each public operation's promise determines the
--- reply and every lent cell afterwards. That no second reply fits is proved". One theorem for each of the eight public
--- operations; each cites the one of the operation's own crate. There is no exception. Assumes nothing.
+-- reply and every lent cell afterwards. That no second reply fits is proved". One theorem for each of the library's eight
+-- operations, which cites the one of the operation's own crate; of the seven C functions: exports, Unique. There is no
+-- exception. Assumes nothing.
 use Prim.Native.Nat.{ℕ}
 use mathlib.Core.Path.{_≡_}
 use mathlib.Core.List.{List}

@@ -22,6 +22,7 @@ use Rattle.text.specs.declared.Answer.the-variants.{Read}
 use Rattle.text.specs.declared.Input.{Input}
 use Rattle.text.specs.Form.{Content, Spells, Small, AllSmall, runNumbers, textOf}
 use Rattle.text.specs.Promise.{Reads, textTests, TextPromise, sourcesOf}
+use Rattle.text.proofs.Says as Says
 use Rattle.text.proofs.Unique as Unique
 use Rattle.report.specs.declared.Output.{Output}
 use Rattle.report.specs.Report.{wholeReport, printed, reportOf, ReportPromise}
@@ -72,6 +73,10 @@ text-accepted text input h content = Iff·trans (Unique.accepted text input h co
 -- Two runs with their sources are not written the same.
 pub text-injective : (a b : Content) → textOf a ≡ textOf b → a ≡ b
 text-injective = Unique.text-injective
+
+-- Every text says a run and sources, or it has not the form.
+pub text-says : (text : List ℕ) → (o : Option Content) × Reads text o
+text-says = Says.reads-exists
 
 -- ---- the list program
 
