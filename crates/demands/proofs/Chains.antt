@@ -156,7 +156,7 @@ pub few-calls : {block : Run} {source : Source} {start : RunCell} (chain : Chain
 few-calls (done room after n promise) = omega arith
 few-calls (more room after n next promise rest) = let l = left promise in omega (arith, few-calls rest)
 
--- Calls that all say "more" are fewer than the hits.
+-- Calls that all say "more" are fewer than the hits, or none where there is no hit.
 pub few-mores : {block : Run} {source : Source} {start : RunCell} {calls : ℕ} → Mores block source start calls → calls < max 1 (length (hitsFrom block source (start .0)))
 few-mores none-yet = omega arith
 few-mores (one-more room after n next promise rest) = let l = left promise in omega (arith, few-mores rest)

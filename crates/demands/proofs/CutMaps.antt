@@ -1,5 +1,5 @@
--- The maps of a cut's blocks: each block is a valid run, each map as long as its block, and together they are as long as the
--- run's. Assumes nothing.
+-- The maps of a cut's blocks: each block is a valid run and a block of the run (`ValidBlock`), each map as long as its block,
+-- and together they are as long as the run's. Assumes nothing.
 use Prim.Native.Nat.{ℕ, zero, suc, _+_, _-_, _*_, _≤_, _<_}
 use native.Mathlib.Omega.{arith}
 use mathlib.Core.Path.{_≡_, refl, sym, ap, _∙_}
