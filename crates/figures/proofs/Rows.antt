@@ -1,4 +1,5 @@
--- A row holds if its figure is an outcome of the promise, since no second one fits. Assumes nothing.
+-- A row holds if its figure is an outcome of the promise, since no second one fits; of the saved map: if the row's length is
+-- that of the run's file, and the file has it and these checks. Assumes nothing.
 use Prim.Native.Nat.{ℕ, _*_, _%_, _≤_, min}
 use mathlib.Core.Path.{_≡_, refl, sym, ap, subst, subst₂, _∙_}
 use mathlib.Core.Bool.{true, false, not}
@@ -39,7 +40,7 @@ use Rattle.map.proofs.Promise.{map-unique}
 use Rattle.hits.specs.declared.Listing.{Listing}
 use Rattle.hits.specs.declared.Listing.the-variants.{Done, More, Refused}
 use Rattle.hits.specs.Promise.{firstHitTests, listingTests, first as first-of, Listed, saysListing, listed, written, ListingPromise}
-use Rattle.figures.specs.Table.{HitPlace, run, vectors, hits, mapped, saved, Holds}
+use Rattle.figures.specs.Table.{HitPlace, runLine, vectors, hits, mapped, saved, Holds}
 
 -- ---- vectors
 
@@ -101,21 +102,21 @@ module _ (p r I first last : ℕ) (figure : List HitPlace) (cells : List ℕ)
     (window : complaint (windowTests I) ≡ none)
     (lines : complaint (lineTests first last) ≡ none)
     (period : complaint (periodTests p) ≡ none)
-    (some-cell : (T : ℕ) → leb (cellsOf (run I T first last)) 0 ≡ false)
-    (are : hitsFrom (run I r first last) (record { period = p }) 0 ≡ cells)
+    (some-cell : (T : ℕ) → leb (cellsOf (runLine I T first last)) 0 ≡ false)
+    (are : hitsFrom (runLine I r first last) (record { period = p }) 0 ≡ cells)
     (many : length cells ≡ length figure)
     (some : True (ltb 0 (length figure)))
-    (at : (T : ℕ) → map pos cells ≡ map (λ place. cellOf (run I T first last) (place .offset) (place .line)) figure) where
+    (at : (T : ℕ) → map pos cells ≡ map (λ place. cellOf (runLine I T first last) (place .offset) (place .line)) figure) where
   -- the hits of every interval with the remainder r, and room for them
   module _ (T : ℕ) (ticks : 1 ≤ T) (remainder : T % p ≡ r) (room : List ℕ) (e : length room ≡ length figure) where
-    granted : Passes (listingTests (run I T first last) (record { period = p }) (record { 0 = 0 }) room)
+    granted : Passes (listingTests (runLine I T first last) (record { period = p }) (record { 0 = 0 }) room)
     unfolding listingTests firstHitTests runTests sourceTests
     granted =
         both (both (both (both (both (record { is = window }) (record { is = lines })) (sound (ne-eqb T 0 (λ z. omega arith)))) (record { is = period })) (sound (some-cell T)))
         (sound (ne-eqb (length room) 0 (λ z. omega (arith, ltb→lt 0 (length figure) some))))
 
-    hit : hitsFrom (run I T first last) (record { period = p }) 0 ≡ cells
-    hit = hits-remainder (run I T first last) (record { period = p }) r (sym (mod-mod T p) ∙ ap (λ n. n % p) remainder) 0 ∙ are
+    hit : hitsFrom (runLine I T first last) (record { period = p }) 0 ≡ cells
+    hit = hits-remainder (runLine I T first last) (record { period = p }) r (sym (mod-mod T p) ∙ ap (λ n. n % p) remainder) 0 ∙ are
 
     -- the room is just used up
     whole : written cells room ≡ cells
@@ -134,10 +135,10 @@ module _ (p r I first last : ℕ) (figure : List HitPlace) (cells : List ℕ)
         next : first-of (drop (length room) cells) ≡ none
         next = rw (drop-of-length-le cells {i = length room} (omega (arith, e, many)))
 
-    said : reply (complaint (listingTests (run I T first last) (record { period = p }) (record { 0 = 0 }) room)) (listed (hitsFrom (run I T first last) (record { period = p }) 0) room) ≡ saysListing (Done (length figure))
+    said : reply (complaint (listingTests (runLine I T first last) (record { period = p }) (record { 0 = 0 }) room)) (listed (hitsFrom (runLine I T first last) (record { period = p }) 0) room) ≡ saysListing (Done (length figure))
     said = rw (granted .is, hit, counted)
 
-    held : stored (complaint (listingTests (run I T first last) (record { period = p }) (record { 0 = 0 }) room)) room (written (hitsFrom (run I T first last) (record { period = p }) 0) room) ≡ cells
+    held : stored (complaint (listingTests (runLine I T first last) (record { period = p }) (record { 0 = 0 }) room)) room (written (hitsFrom (runLine I T first last) (record { period = p }) 0) room) ≡ cells
     held = rw (granted .is, hit, whole)
 
   pub hits-row : Holds (hits p r I first last figure)
@@ -167,12 +168,12 @@ module _ (run : Run) (cells : List ℕ) (size first second : ℕ)
     (long : length (fileOf run cells) ≡ size)
     (a : fourAt (fileOf run cells) 508 ≡ first)
     (b : fourAt (fileOf run cells) 1020 ≡ second) where
-  begun : (room : List ℕ) → Passes (runTests run andThen Room when not (eqb (length cells) (cellsOf run)))
-  begun room = both (record { is = passes }) (sound (ap not whole))
+  begun : Passes (runTests run andThen Room when not (eqb (length cells) (cellsOf run)))
+  begun = both (record { is = passes }) (sound (ap not whole))
 
   granted-room : (room : List ℕ) → length room ≡ size → Passes (savingTests run cells room)
   unfolding savingTests
-  granted-room room e = both (begun room) (sound (agrees refl refl (e ∙ room-size)))
+  granted-room room e = both begun (sound (agrees refl refl (e ∙ room-size)))
 
   sized : (room : List ℕ) → Passes (savingTests run cells room) → length room ≡ size
   unfolding savingTests
@@ -181,7 +182,7 @@ module _ (run : Run) (cells : List ℕ) (size first second : ℕ)
   exists : (room : List ℕ) → Dec (length room ≡ size) → (answer : Saved) × (after : List ℕ) × SavingPromise run cells room answer after
   unfolding savingTests
   exists room (yes e) = (Done·saved, fileOf run cells, grant-saving (granted-room room e) refl)
-  exists room (no n) = (Refused·saved (number Room), room, refuse-saving (then (begun room) (broken (differs refl refl (λ e. n (e ∙ sym room-size))))))
+  exists room (no n) = (Refused·saved (number Room), room, refuse-saving (then begun (broken (differs refl refl (λ e. n (e ∙ sym room-size))))))
 
   pub saved-row : Holds (saved run cells size first second)
   saved-row room = (λ answer after h. ((to answer after h, from answer after h), holds answer after h), exists room (ℕ-discrete (length room) size))

@@ -1,4 +1,5 @@
--- "Starred figures are covered by one statement over one table": `figures-hold`. Assumes nothing.
+-- "Starred figures are covered by one statement over one table": `figures-hold`. The refusal that stands beside one of them is
+-- covered too. Assumes nothing.
 use native.Mathlib.Omega.{arith}
 use mathlib.Core.Path.{_≡_, refl, sym, subst}
 use mathlib.Core.Logic.{_⊎_, inl, inr}
@@ -12,7 +13,7 @@ use Rattle.map.specs.Map.{mapTests, weightAt, added}
 use Rattle.vectors.specs.Promise.{vectorsTests}
 use Rattle.blocks.specs.Block.{four, fourAt, weighted, checkOf, filled, sealed, blockOf}
 use Rattle.saved.specs.File.{heading, firstJoined, cellBlocks, blocksFor, fileLength, fileOf}
-use Rattle.figures.specs.Table.{Figure, hits, mapped, saved, Holds, run, hits-1-11, example, exampleMap, table}
+use Rattle.figures.specs.Table.{Figure, Holds, hits-1-11, example, exampleMap, table}
 use Rattle.figures.proofs.Rows.{vectors-row, is-pair, gcd-divisor, gcd-zero, hits-row, map-row, saved-row}
 
 -- every row of a list holds
@@ -69,6 +70,7 @@ each (first ∷ rest) all figure m = go (each rest (all .1) figure) (List·Mem�
     go later (inl e) = subst Holds (sym e) (all .0)
     go later (inr n) = later n
 
--- Each figure of the table holds: the promise at the row's inputs admits an outcome exactly if it is the row's figure.
+-- Each figure of the table holds: the promise at the row's inputs admits an outcome exactly if it is the row's figure; of the
+-- saved map: done exactly if the room has the row's length, and then with these checks.
 pub figures-hold : (figure : Figure) → List·Memᴰ figure table → Holds figure
 figures-hold = each table rows

@@ -1,4 +1,5 @@
--- Document 01, "Bench figures": the starred ones, as they stand there, and what it is for a figure to hold.
+-- Document 01, "Bench figures": the starred ones, and the refusal that stands beside one of them, as they stand there; and what
+-- it is for a figure to hold.
 use Prim.Native.Nat.{ℕ, _%_, _≤_}
 use mathlib.Core.Path.{_≡_}
 use mathlib.Core.List.{List, [], _∷_, map}
@@ -28,8 +29,8 @@ pub record HitPlace : Type 0 where
   pub line : ℕ
 
 -- "run I T first last".
-abbrev pub run : (I T first last : ℕ) → Run
-run I T first last = record { window = I; interval = T; first = first; last = last }
+abbrev pub runLine : (I T first last : ℕ) → Run
+runLine I T first last = record { window = I; interval = T; first = first; last = last }
 
 -- A row of the table.
 pub data Figure : Type 0 where
@@ -42,14 +43,15 @@ pub data Figure : Type 0 where
   -- "saved, it is 1,024 bytes with checks 294 and 22,327": of a run and its map, the length and the checks of the two blocks
   saved : Run → (cells : List ℕ) → (size first second : ℕ) → Figure
 
--- A figure holds if the promise at the row's inputs admits an outcome exactly if it is the row's figure. The hits are those of
--- every interval T with T mod p = r. A map is saved exactly if the room has the row's length, and some outcome is admitted.
+-- A figure holds if the promise at the row's inputs admits an outcome exactly if it is the row's figure; of the saved map: done
+-- exactly if the room has the row's length, and then with these checks, and some outcome is admitted. The hits are those of
+-- every interval T with T mod p = r.
 abbrev pub Holds : Figure → Type 0
 Holds (vectors p r I figure) = (steps : Steps) → VectorsPromise p r I steps ↔ (saysVectors steps ≡ figure)
 Holds (hits p r I first last figure) =
     (T : ℕ) → 1 ≤ T → T % p ≡ r → (room : List ℕ) → length room ≡ length figure → (reply : Listing) (after : List ℕ) →
-    ListingPromise (run I T first last) (record { period = p }) (record { 0 = 0 }) room reply after ↔
-    ((reply ≡ Done (length figure)) × (map pos after ≡ map (λ place. cellOf (run I T first last) (place .offset) (place .line)) figure))
+    ListingPromise (runLine I T first last) (record { period = p }) (record { 0 = 0 }) room reply after ↔
+    ((reply ≡ Done (length figure)) × (map pos after ≡ map (λ place. cellOf (runLine I T first last) (place .offset) (place .line)) figure))
 Holds (mapped run periods weights figure) =
     (answer : Added) (after : List ℕ) →
     MapPromise run periods weights (replicate (length figure) 0) answer after ↔ ((answer ≡ Done·map) × (after ≡ figure))
@@ -74,13 +76,13 @@ hits-1-11 = place (minus 3) 2 ∷ place (pos 1) 3 ∷ place (minus 2) 5 ∷ plac
 
 -- "run 4 10 1 5".
 abbrev pub example : Run
-example = run 4 10 1 5
+example = runLine 4 10 1 5
 
 -- "map 0 200, map 3 200, map 5 255, map 10 200, map 12 255, map 15 200, map 17 200, map 19 60", the other cells being 0.
 abbrev pub exampleMap : List ℕ
 exampleMap = 200 ∷ 0 ∷ 0 ∷ 200 ∷ 0 ∷ 255 ∷ 0 ∷ 0 ∷ 0 ∷ 0 ∷ 200 ∷ 0 ∷ 255 ∷ 0 ∷ 0 ∷ 200 ∷ 0 ∷ 200 ∷ 0 ∷ 60 ∷ []
 
--- "Marked * are proved."
+-- "Marked * are proved." The starred ones, and the refusal that stands beside one of them: "I 6 with p 4".
 abbrev pub table : List Figure
 table =
     vectors 7 3 4 (answered (pair (minus 1) 2 (pos 3) 1)) ∷
