@@ -27,10 +27,11 @@ Answered block (Done n) = Unit {0}
 Answered block (More n next) = next .0 < cellsOf block
 Answered block (Refused n) = ⊥
 
--- Numbers as cells of a block, and as cells of the run.
+-- Numbers as cells of a block.
 abbrev pub blockCells : List ℕ → List BlockCell
 blockCells numbers = map (λ x. record { 0 = x }) numbers
 
+-- And as cells of the run.
 abbrev pub runCells : List ℕ → List RunCell
 runCells numbers = map (λ x. record { 0 = x }) numbers
 
