@@ -75,8 +75,8 @@ pub text-injective : (a b : Content) → textOf a ≡ textOf b → a ≡ b
 text-injective = Unique.text-injective
 
 -- Every text says a run and sources, or it has not the form.
-pub text-says : (text : List ℕ) → (o : Option Content) × Reads text o
-text-says = Says.reads-exists
+pub reads-exists : (text : List ℕ) → (o : Option Content) × Reads text o
+reads-exists = Says.reads-exists
 
 -- ---- the list program
 
