@@ -3,12 +3,14 @@
 use Prim.Native.Nat.{ℕ, _≤_, _<_}
 use native.Mathlib.Omega.{arith}
 use mathlib.Core.Path.{_≡_, sym, ap, _∙_}
-use lib.ListN.{length, take, length-replicate}
+use mathlib.Core.List.{List}
+use lib.ListN.{length, take}
 use lib.Seq.{length-take-le}
 use lib.IntN.{ℤ, pos, negsuc}
 use borrow.Author.Needs.{needs}
 use Rattle.io.specs.Counts.{clamped}
 use Rattle.report.specs.Report.{zeros}
+use Rattle.report.proofs.Mapped.{zeros-long}
 use Rattle.report.proofs.Unique.{output-within, output-prints}
 use Rattle.list.specs.declared.Reading.{Reading}
 use Rattle.list.specs.declared.Input.the-variants.{Text}
@@ -39,19 +41,21 @@ read-as c =
 within : (c : tie.After-known-told) → c .before .count .given .0 .0 ≤ length (c .before .before .before .before .before .read-input .last .0)
 within c = let t = read-as c in let s = c .before .before .before .before .before .read-input .ensures in omega arith
 
--- the room stays as long as it was
-room-length : (c : tie.After-known-told) → length (c .before .before .before .before .before .read-input .last .0) ≡ 4097
-unfolding zeros
-room-length c =
+zeros-length : {n : ℕ} {room : List ℕ} → room ≡ zeros n → length room ≡ n
+zeros-length {n} e = ap length e ∙ zeros-long n
+
+-- the room stays as long as it was, which is longer than a text may be
+room-longer : (c : tie.After-known-told) → 4096 < length (c .before .before .before .before .before .read-input .last .0)
+room-longer c =
     let k = c .before .before .before .before .before .read-input .kept in
-    let e = c .before .before .before .before .before .before .before .text-room .ensures in
-    k .0 ∙ simp (e, length-replicate)
+    let l = zeros-length (c .before .before .before .before .before .before .before .text-room .ensures) in
+    omega (arith, k .0, l)
 
 -- the text is all of the input, or longer than a text may be
 whole : (c : tie.After-known-told) → Whole (c .before .before .before .before .before .read-input .result) (take (c .before .count .given .0 .0) (c .before .before .before .before .before .read-input .last .0))
 whole c =
     let t = read-as c in
-    record { all = length-take-le _ _ (within c) ∙ sym (t .is); ended = λ few. t .ended (omega (arith, room-length c)) }
+    record { all = length-take-le _ _ (within c) ∙ sym (t .is); ended = λ few. t .ended (omega (arith, room-longer c)) }
 
 text-room-requires : tie.Need-text-room-requires
 text-room-requires c κs = search needs
