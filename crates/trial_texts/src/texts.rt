@@ -88,7 +88,7 @@ fn try_lines(ledger: &mut [u64]) {
     );
     try_each(
         ledger,
-        b"run\n|run 4 10 1\n|run 4 10 1 \n|run 4 10 1 5 6\n|run 4 10 1 5\nsrc 7\n|run 4 10 1 5\nsrc 7 60 0\n|",
+        b"run\n|run 4 10 1\n|run 4 10 1 \n|run 4 10 1 5 6\n|run 4 10 1 5\nsrc 7\n|run 4 10 1 5\nsrc 7|run 4 10 1 5\nsrc 7 60 0\n|",
     );
 }
 
