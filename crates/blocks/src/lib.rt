@@ -5,7 +5,7 @@ ghost use mathlib.Core.Path.{_≡_};
 ghost use Prim.Native.Nat.{_+_, _*_, _≤_, _<_};
 ghost use lib.ListN.{length, drop, replicate};
 ghost use Rattle.scope.specs.Refusal.{complaint};
-ghost use Rattle.scope.specs.Reply.{verdict};
+ghost use Rattle.scope.specs.InnerVerdict.{verdict};
 ghost use Rattle.blocks.specs.Block.{four, fourAt, checkOf, blockOf, allZero, sealedWith, blockTests};
 
 // A block has so many bytes: its number, its contents, its check.

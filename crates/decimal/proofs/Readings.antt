@@ -11,7 +11,7 @@ use native.Mathlib.Omega.{arith}
 use lib.ListN.{length, getD, drop, length-append, length-drop, drop-of-length-le}
 use lib.Seq.{drop-cons, drop-drop, drop-append-seam}
 use Rattle.decimal.specs.Digits.{digits, isDigit, beginsWithDigit}
-use Rattle.decimal.specs.Promises.{NumberStands, Reading}
+use Rattle.decimal.specs.Promise.{NumberStands, Reading}
 use Rattle.decimal.specs.declared.Number.{Number}
 use Rattle.decimal.specs.declared.Number.the-variants.{Value, Bad}
 use Rattle.decimal.proofs.Laws.{
@@ -37,7 +37,7 @@ pub stands-unique : {text : List ℕ} {at v v′ next next′ : ℕ} → NumberS
     → (v ≡ v′) × (next ≡ next′)
 stands-unique {text} {at} {v} {v′} {next} {next′} a b =
     let e = digits-split v v′ (drop next text) (drop next′ text) (a .ended) (b .ended) (sym (a .spelled) ∙ b .spelled) .0 in
-    (e, a .place ∙ ap (λ n. at + length (digits n)) e ∙ sym (b .place))
+    (e, a .ends ∙ ap (λ n. at + length (digits n)) e ∙ sym (b .ends))
 
 -- no second reading fits
 pub number-unique : (text : List ℕ) (at : ℕ) (r r′ : Number) → Reading text at r → Reading text at r′ → r ≡ r′
@@ -50,7 +50,7 @@ number-unique text at Bad Bad a b = refl
 pub stands-within : {text : List ℕ} {at v next : ℕ} → NumberStands text at v next → (at < next) × (next ≤ length text)
 stands-within {text} {at} {v} {next} s =
     let l = simp (length-append, length-drop) at (ap length (s .spelled)) in
-    omega (arith, length-pos v, s .place)
+    omega (arith, length-pos v, s .ends)
 
 -- a number and what follows it, wherever they are found, stand there
 pub stands : (text : List ℕ) (at v : ℕ) (rest : List ℕ) → v < 2 ^ 32 → drop at text ≡ digits v ++ rest
@@ -58,7 +58,7 @@ pub stands : (text : List ℕ) (at v : ℕ) (rest : List ℕ) → v < 2 ^ 32 →
 stands text at v rest small e ended =
     let d : drop (at + length (digits v)) text ≡ rest =
     sym (drop-drop (length (digits v)) at text) ∙ ap (drop (length (digits v))) e ∙ drop-append-seam (digits v) rest in
-    record { small = small; spelled = rw d e; ended = rw d ended; place = refl }
+    record { small = small; spelled = rw d e; ended = rw d ended; ends = refl }
 
 -- ---- a digit at a place
 
@@ -93,14 +93,14 @@ digit text at d e begins =
 pub record Passed (text : List ℕ) (at v next : ℕ) : Type 0 where
   pub small : v < 2 ^ 32
   pub spelled : drop at text ≡ digits v ++ drop next text
-  pub place : next ≡ at + length (digits v)
+  pub ends : next ≡ at + length (digits v)
 
 module _ {text : List ℕ} {at : ℕ} where
   -- the first digit alone
   pub passed-first : {d : ℕ} → Digit text at d → Passed text at d (at + 1)
   passed-first {d} g =
       let e = digits-one d (g .small) in
-      record { small = omega (arith, g .small); spelled = rw e (g .there); place = rw e }
+      record { small = omega (arith, g .small); spelled = rw e (g .there); ends = rw e }
 
   -- the digits passed and one digit more
   longer : {v next d : ℕ} → Passed text at v next → Digit text next d
@@ -115,12 +115,12 @@ module _ {text : List ℕ} {at : ℕ} where
       record {
         small = small;
         spelled = rw e (longer p g);
-        place = rw e (omega (arith, length-append (digits v) ((48 + d) ∷ []), p .place));
+        ends = rw e (omega (arith, length-append (digits v) ((48 + d) ∷ []), p .ends));
       }
 
   -- no digit more: the number stands there
   pub passed-ends : {v next : ℕ} → Passed text at v next → beginsWithDigit (drop next text) ≡ false → NumberStands text at v next
-  passed-ends p e = record { small = p .small; spelled = p .spelled; ended = e; place = p .place }
+  passed-ends p e = record { small = p .small; spelled = p .spelled; ended = e; ends = p .ends }
 
   -- ---- no number stands there
 

@@ -8,20 +8,20 @@ use native.Mathlib.Numerals.{add-one}
 use native.Mathlib.Omega.{arith}
 use lib.ListN.{length, take, drop, set, length-append, length-drop, take-append-drop}
 use lib.Seq.{length-take-le, take-at, drop-at, drop-drop, set-split}
-use Rattle.decimal.specs.Promises.{Written}
+use Rattle.decimal.specs.Promise.{Written}
 
 -- to write nothing changes nothing
 pub written-none : (room : List ℕ) (at : ℕ) → Written room at [] at room
 written-none room at =
-    record { place = sym (add-zero at); kept = sym (simp (append-nil, take-append-drop)) }
+    record { ends = sym (add-zero at); kept = sym (simp (append-nil, take-append-drop)) }
 
 -- to write one byte is to store it
 pub written-one : (room : List ℕ) (at b : ℕ) → at < length room → Written room at (b ∷ []) (at + 1) (set room at b)
-written-one room at b h = record { place = refl; kept = set-split room at b h ∙ simp (add-one, append-assoc) }
+written-one room at b h = record { ends = refl; kept = set-split room at b h ∙ simp (add-one, append-assoc) }
 
 module _ {room : List ℕ} {at : ℕ} {bytes : List ℕ} {next : ℕ} {after : List ℕ} (w : Written room at bytes next after) where
   length-front : at ≤ length room → length (take at room ++ bytes) ≡ next
-  length-front h = simp (length-append, length-take-le) (sym (w .place))
+  length-front h = simp (length-append, length-take-le) (sym (w .ends))
 
   -- before the next place: what stood before `at`, then the bytes
   pub written-front : at ≤ length room → take next after ≡ take at room ++ bytes
@@ -36,24 +36,24 @@ module _ {room : List ℕ} {at : ℕ} {bytes : List ℕ} {next : ℕ} {after : L
   written-length h =
       ap length (w .kept)
       ∙ length-append (take at room ++ bytes) (drop next room)
-      ∙ omega (arith, w .place, length-front (omega (arith, w .place)), length-drop next room)
+      ∙ omega (arith, w .ends, length-front (omega (arith, w .ends)), length-drop next room)
 
   -- two pieces one after the other are one piece
   pub written-append : {more : List ℕ} {end : ℕ} {last : List ℕ} → at ≤ length room → Written after next more end last
       → Written room at (bytes ++ more) end last
   written-append {more} {end} {last} h v =
       let skip : drop end after ≡ drop end room =
-      ap (λ k. drop k after) (v .place) ∙ sym (drop-drop (length more) next after)
+      ap (λ k. drop k after) (v .ends) ∙ sym (drop-drop (length more) next after)
       ∙ ap (drop (length more)) (written-back h)
       ∙ drop-drop (length more) next room
-      ∙ ap (λ k. drop k room) (sym (v .place)) in
+      ∙ ap (λ k. drop k room) (sym (v .ends)) in
       record {
-        place = v .place ∙ omega (arith, w .place, length-append bytes more);
+        ends = v .ends ∙ omega (arith, w .ends, length-append bytes more);
         kept = v .kept ∙ rw (written-front h, skip) (simp append-assoc);
       }
 
   -- nothing else fits
   pub written-unique : {next′ : ℕ} {after′ : List ℕ} → Written room at bytes next′ after′ → (next ≡ next′) × (after ≡ after′)
   written-unique v =
-      let e = w .place ∙ sym (v .place) in
+      let e = w .ends ∙ sym (v .ends) in
       (e, w .kept ∙ ap (λ n. take at room ++ bytes ++ drop n room) e ∙ sym (v .kept))

@@ -5,7 +5,7 @@ ghost use mathlib.Core.Path.{_≡_};
 ghost use mathlib.Core.List.{[], _∷_};
 ghost use lib.ListN.{length, drop};
 ghost use Rattle.decimal.specs.Digits.{digits, beginsWithDigit};
-ghost use Rattle.decimal.specs.Promises.{Written, Reading};
+ghost use Rattle.decimal.specs.Promise.{Written, Reading};
 
 // The largest number that a text may hold.
 const LARGEST: u64 = 4_294_967_295;

@@ -15,7 +15,7 @@ use Rattle.scope.specs.declared.Run.{Run}
 use Rattle.scope.specs.declared.Source.{Source}
 use Rattle.scope.specs.declared.RunCell.{RunCell}
 use Rattle.scope.specs.declared.BlockCell.{BlockCell}
-use Rattle.scope.specs.Run.{Valid, ValidSource, cellsOf}
+use Rattle.scope.specs.Run.{ValidRun, ValidSource, cellsOf}
 use Rattle.scope.specs.Hit.{isHit, hitsFrom}
 use Rattle.scope.specs.Refusal.{Complaint, complaint}
 use Rattle.scope.specs.Reply.{refused, answered, reply, stored}
@@ -164,13 +164,13 @@ few-mores (one-more room after n next promise rest) = let l = left promise in om
 -- ---- such a chain exists
 
 -- a call within the limits passes its tests
-pub accepted : {block : Run} {source : Source} → Valid block → ValidSource source → (start : RunCell) → start .0 < cellsOf block → (room : List ℕ) → 1 ≤ length room → Passes (listingTests block source start room)
+pub accepted : {block : Run} {source : Source} → ValidRun block → ValidSource source → (start : RunCell) → start .0 < cellsOf block → (room : List ℕ) → 1 ≤ length room → Passes (listingTests block source start room)
 unfolding listingTests firstHitTests
 accepted {block} {source} v w start inside room lent =
     both (both (both (valid-run-passes v) (valid-source-passes w)) (sound (lt-leb (cellsOf block) (start .0) inside))) (sound (ne-eqb (length room) 0 (λ e. omega arith)))
 
 -- it is not refused
-pub not-refused : {block : Run} {source : Source} → Valid block → ValidSource source → (start : RunCell) → start .0 < cellsOf block → (room : List ℕ) → 1 ≤ length room → (r : Listing) (after : List ℕ) → ListingPromise block source start room r after → (n : ℕ) → saysListing r ≡ refused n → ⊥
+pub not-refused : {block : Run} {source : Source} → ValidRun block → ValidSource source → (start : RunCell) → start .0 < cellsOf block → (room : List ℕ) → 1 ≤ length room → (r : Listing) (after : List ℕ) → ListingPromise block source start room r after → (n : ℕ) → saysListing r ≡ refused n → ⊥
 not-refused {block} {source} v w start inside room lent r after h n e =
     let p = accepted v w start inside room lent .is in
     let s : refused n ≡ answered (listed (hitsFrom block source (start .0)) room) = sym e ∙ h .says ∙ rw p in
@@ -183,7 +183,7 @@ pub record Lent (block : Run) (source : Source) (start : RunCell) (rooms : ℕ �
   pub lends : Lends rooms chain
 
 -- one call, and the chain that goes on from where it stopped
-lent-from : {block : Run} {source : Source} → Valid block → ValidSource source → (start : RunCell) → start .0 < cellsOf block → (rooms : ℕ → List ℕ) → ((k : ℕ) → 1 ≤ length (rooms k)) → ((next : RunCell) → next .0 < cellsOf block → length (hitsFrom block source (next .0)) < length (hitsFrom block source (start .0)) → Lent block source next (λ k. rooms (suc k))) → Lent block source start rooms
+lent-from : {block : Run} {source : Source} → ValidRun block → ValidSource source → (start : RunCell) → start .0 < cellsOf block → (rooms : ℕ → List ℕ) → ((k : ℕ) → 1 ≤ length (rooms k)) → ((next : RunCell) → next .0 < cellsOf block → length (hitsFrom block source (next .0)) < length (hitsFrom block source (start .0)) → Lent block source next (λ k. rooms (suc k))) → Lent block source start rooms
 lent-from {block} {source} v w start inside rooms above rest = let o = listing-exists block source start (rooms 0) in go (o .0) (o .1) (o .2)
   where
     go : (r : Listing) (after : List ℕ) → ListingPromise block source start (rooms 0) r after → Lent block source start rooms
@@ -195,11 +195,11 @@ lent-from {block} {source} v w start inside rooms above rest = let o = listing-e
     go (Refused n) after h = absurd (not-refused v w start inside (rooms 0) (above 0) (Refused n) after h n refl)
 
 -- m is no less than the number of hits that are left
-lent-bounded : {block : Run} {source : Source} → Valid block → ValidSource source → (m : ℕ) (start : RunCell) → start .0 < cellsOf block → length (hitsFrom block source (start .0)) ≤ m → (rooms : ℕ → List ℕ) → ((k : ℕ) → 1 ≤ length (rooms k)) → Lent block source start rooms
+lent-bounded : {block : Run} {source : Source} → ValidRun block → ValidSource source → (m : ℕ) (start : RunCell) → start .0 < cellsOf block → length (hitsFrom block source (start .0)) ≤ m → (rooms : ℕ → List ℕ) → ((k : ℕ) → 1 ≤ length (rooms k)) → Lent block source start rooms
 lent-bounded v w zero start inside bound rooms above = lent-from v w start inside rooms above (λ next i l. absurd (omega arith))
 lent-bounded v w (suc m) start inside bound rooms above =
     lent-from v w start inside rooms above (λ next i l. lent-bounded v w m next i (omega arith) (λ k. rooms (suc k)) (λ k. above (suc k)))
 
 -- For every supply of rooms above nothing, and from every cell on, such a chain exists.
-pub lent-exists : {block : Run} {source : Source} → Valid block → ValidSource source → (start : RunCell) → start .0 < cellsOf block → (rooms : ℕ → List ℕ) → ((k : ℕ) → 1 ≤ length (rooms k)) → Lent block source start rooms
+pub lent-exists : {block : Run} {source : Source} → ValidRun block → ValidSource source → (start : RunCell) → start .0 < cellsOf block → (rooms : ℕ → List ℕ) → ((k : ℕ) → 1 ≤ length (rooms k)) → Lent block source start rooms
 lent-exists {block} {source} v w start inside rooms above = lent-bounded v w (length (hitsFrom block source (start .0))) start inside (omega arith) rooms above

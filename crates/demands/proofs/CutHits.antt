@@ -7,7 +7,7 @@ use mathlib.Core.Path.{_≡_, sym, _∙_}
 use mathlib.Core.List.{List, [], _∷_, _++_, map}
 use Rattle.scope.specs.declared.Run.{Run}
 use Rattle.scope.specs.declared.Source.{Source}
-use Rattle.scope.specs.Run.{Valid, IsBlock, cellsOf, shiftOf}
+use Rattle.scope.specs.Run.{ValidRun, IsBlock, cellsOf, shiftOf}
 use Rattle.scope.specs.Hit.{hitsAmong, hitsFrom}
 use Rattle.scope.proofs.Hits.{hits-end, hits-split, hits-block}
 use Rattle.demands.specs.Cut.{CutFrom, Cut}
@@ -31,11 +31,11 @@ hits-join run source x m h =
     rw all (sym (hits-split run source x m n))
 
 -- a block's hits are those of its lines
-block-hits : {run block : Run} → Valid run → IsBlock run block → (source : Source) → moved run block (hitsFrom block source 0) ≡ hitsAmong run source (shiftOf run block) (cellsOf block)
+block-hits : {run block : Run} → ValidRun run → IsBlock run block → (source : Source) → moved run block (hitsFrom block source 0) ≡ hitsAmong run source (shiftOf run block) (cellsOf block)
 block-hits {run} {block} v i source = rw (zero-add (shiftOf run block), sub-zero (cellsOf block)) at (hits-block v i source 0)
 
 -- the blocks from a line on have the run's hits from that line on
-hits-from : {run : Run} → Valid run → (source : Source) (line : ℕ) (blocks : List Run) → run .first ≤ line → CutFrom run line blocks → blockHits run source blocks ≡ hitsFrom run source (before run line)
+hits-from : {run : Run} → ValidRun run → (source : Source) (line : ℕ) (blocks : List Run) → run .first ≤ line → CutFrom run line blocks → blockHits run source blocks ≡ hitsFrom run source (before run line)
 hits-from {run} v source line [] from c = sym (hits-end run source (before run line) (before-end run c))
 hits-from {run} v source line (block ∷ blocks) from c =
     let i = piece-is run blocks from c in
@@ -46,5 +46,5 @@ hits-from {run} v source line (block ∷ blocks) from c =
     rw (block-hits v i source, ih, next, before-piece p) (hits-join run source (shiftOf run block) (cellsOf block) (omega arith))
 
 -- The hits of a cut's blocks are the run's hits, in order.
-pub cut-hits : {run : Run} → Valid run → (source : Source) (blocks : List Run) → Cut run blocks → blockHits run source blocks ≡ hitsFrom run source 0
+pub cut-hits : {run : Run} → ValidRun run → (source : Source) (blocks : List Run) → Cut run blocks → blockHits run source blocks ≡ hitsFrom run source 0
 cut-hits {run} v source blocks c = hits-from v source (run .first) blocks (omega arith) c ∙ rw (before-first run)

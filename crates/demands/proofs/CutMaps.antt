@@ -6,20 +6,20 @@ use mathlib.Core.Path.{_≡_, refl, sym, ap, _∙_}
 use mathlib.Core.List.{List, [], _∷_}
 use lib.ListN.{length, getD, length-append}
 use Rattle.scope.specs.declared.Run.{Run}
-use Rattle.scope.specs.Run.{Valid, linesOf, cellsOf}
+use Rattle.scope.specs.Run.{ValidRun, linesOf, cellsOf}
 use Rattle.scope.proofs.Numbering.{valid-block}
 use Rattle.demands.specs.Cut.{CutFrom, Cut}
 use Rattle.demands.specs.Adding.{together, Maps}
 use Rattle.demands.proofs.Cuts.{piece-is, ValidBlock, before, before-first, before-piece, before-next}
 
 module _ (run : Run) where
-  block-at : Valid run → (line : ℕ) (blocks : List Run) → run .first ≤ line → CutFrom run line blocks → (k : ℕ) → k < length blocks → ValidBlock run (getD blocks k run)
+  block-at : ValidRun run → (line : ℕ) (blocks : List Run) → run .first ≤ line → CutFrom run line blocks → (k : ℕ) → k < length blocks → ValidBlock run (getD blocks k run)
   block-at v line [] low c k h = absurd (omega arith)
   block-at v line (block ∷ blocks) low c zero h = let i = piece-is run blocks low c in record { valid = valid-block v i (c .0 .ordered); is = i }
   block-at v line (block ∷ blocks) low c (suc k) h = let p = c .0 in block-at v (suc (block .last)) blocks (omega arith) (c .1) k (omega arith)
 
   -- the block at each place is a valid run and a block of the run
-  pub valid-at : Valid run → (blocks : List Run) → Cut run blocks → (k : ℕ) → k < length blocks → ValidBlock run (getD blocks k run)
+  pub valid-at : ValidRun run → (blocks : List Run) → Cut run blocks → (k : ℕ) → k < length blocks → ValidBlock run (getD blocks k run)
   valid-at v blocks c = block-at v (run .first) blocks (omega arith) c
 
   -- the maps are as many as the blocks
@@ -51,5 +51,5 @@ module _ (run : Run) where
       omega (arith, more, before-on line block blocks low c, length-append map (together maps), s .0)
 
   -- the blocks' cells are the run's
-  pub cut-cells : Valid run → (blocks : List Run) (maps : List (List ℕ)) → Cut run blocks → Maps blocks maps → length (together maps) ≡ cellsOf run
+  pub cut-cells : ValidRun run → (blocks : List Run) (maps : List (List ℕ)) → Cut run blocks → Maps blocks maps → length (together maps) ≡ cellsOf run
   cut-cells v blocks maps c s = omega (arith, rest-cells (run .first) blocks maps (omega arith) c s, before-first run)

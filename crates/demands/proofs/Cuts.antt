@@ -6,7 +6,7 @@ use mathlib.Core.Path.{_≡_, refl, sym, subst}
 use mathlib.Core.Logic.{_⊎_, inl, inr}
 use mathlib.Core.List.{List, [], _∷_, List·Memᴰ, List·Memᴰ·not-nil, List·Memᴰ·cases-cons}
 use Rattle.scope.specs.declared.Run.{Run}
-use Rattle.scope.specs.Run.{Valid, IsBlock, linesOf, cellsOf, shiftOf}
+use Rattle.scope.specs.Run.{ValidRun, IsBlock, linesOf, cellsOf, shiftOf}
 use Rattle.scope.proofs.Numbering.{valid-block, shift-next}
 use Rattle.demands.specs.Cut.{Piece, CutFrom, Cut}
 
@@ -24,10 +24,10 @@ module _ (run : Run) where
 
   -- what the blocks of a cut are: valid runs, and blocks of the run
   pub record ValidBlock (block : Run) : Type 0 where
-    pub valid : Valid block
+    pub valid : ValidRun block
     pub is : IsBlock run block
 
-  valid-from : Valid run → {line : ℕ} (blocks : List Run) → run .first ≤ line → CutFrom run line blocks → (block : Run) → List·Memᴰ block blocks → ValidBlock block
+  valid-from : ValidRun run → {line : ℕ} (blocks : List Run) → run .first ≤ line → CutFrom run line blocks → (block : Run) → List·Memᴰ block blocks → ValidBlock block
   valid-from v [] from c block m = absurd (List·Memᴰ·not-nil m)
   valid-from v (b ∷ blocks) from c block m = go (λ n. valid-from v blocks (omega (arith, c .0 .begins, c .0 .ordered)) (c .1) block n) (List·Memᴰ·cases-cons m)
     where
@@ -39,11 +39,11 @@ module _ (run : Run) where
       go later (inr n) = later n
 
   -- "with the same window and interval": each block of a cut of a valid run is a valid run.
-  pub cut-valid : Valid run → (blocks : List Run) → Cut run blocks → (block : Run) → List·Memᴰ block blocks → ValidBlock block
+  pub cut-valid : ValidRun run → (blocks : List Run) → Cut run blocks → (block : Run) → List·Memᴰ block blocks → ValidBlock block
   cut-valid v blocks c = valid-from v blocks (omega arith) c
 
   -- cuts there are: the run itself
-  pub cut-whole : Valid run → Cut run (run ∷ [])
+  pub cut-whole : ValidRun run → Cut run (run ∷ [])
   cut-whole v = (record { window = refl; interval = refl; begins = refl; ordered = v .ordered }, refl)
 
   -- the lines from a to b

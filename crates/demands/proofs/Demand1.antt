@@ -14,14 +14,14 @@ use borrow.Author.Tests.{leb-false, lt-leb}
 use Rattle.scope.specs.declared.Run.{Run}
 use Rattle.scope.specs.declared.Source.{Source}
 use Rattle.scope.specs.declared.RunCell.{RunCell}
-use Rattle.scope.specs.Run.{Valid, ValidSource, cellsOf}
+use Rattle.scope.specs.Run.{ValidRun, ValidSource, cellsOf}
 use Rattle.scope.specs.Hit.{hitsFrom}
 use Rattle.scope.specs.Refusal.{Complaint, complaint, number}
 use Rattle.scope.specs.Reply.{Said, refused, answered}
 use Rattle.sources.specs.Entry.{Entry, entriesOf}
 use Rattle.scope.proofs.Judged.{Fails, sound, both}
 use Rattle.scope.proofs.Limits.{passes-when, passes-first, passes-then, valid-run, valid-run-passes, valid-source, valid-source-passes}
-use Rattle.sources.specs.Lists.{periodsOf, weightsOf, AllValid}
+use Rattle.sources.specs.Lists.{periodsOf, weightsOf, ValidEntries}
 use Rattle.sources.proofs.Entries.{entries-of, periods-length, weights-length, valid-entries, valid-entries-pass}
 use Rattle.vectors.specs.declared.Steps.{Steps}
 use Rattle.vectors.specs.Vectors.{Values}
@@ -30,7 +30,7 @@ use Rattle.hits.specs.declared.FirstHit.{FirstHit}
 use Rattle.hits.specs.declared.Listing.{Listing}
 use Rattle.hits.specs.Promise.{firstHitTests, saysFirstHit, saysListing, first, listed, written, FirstHitPromise, ListingPromise}
 use Rattle.map.specs.declared.Added.{Added}
-use Rattle.map.specs.Map.{mapTests, added, saysMap, MapPromise}
+use Rattle.map.specs.Promise.{mapTests, added, saysMap, MapPromise}
 use Rattle.saved.specs.declared.Saved.{Saved}
 use Rattle.saved.specs.declared.Loaded.{Loaded}
 use Rattle.saved.specs.File.{fileOf, runOf, mapOf}
@@ -180,7 +180,7 @@ report-refused text output h n =
 -- The interval is a number of 32 bits, so that its upper limit is no row.
 module _ (run : Run) (fits : run .interval ≤ 4294967295) where
   -- The table of the first-hit call says nothing exactly if run, source and start are within 01's ranges.
-  pub first-hit-silent : (source : Source) (start : RunCell) → Silent (firstHitTable run source start) ↔ (Valid run × ValidSource source × (start .0 < cellsOf run))
+  pub first-hit-silent : (source : Source) (start : RunCell) → Silent (firstHitTable run source start) ↔ (ValidRun run × ValidSource source × (start .0 < cellsOf run))
   unfolding firstHitTests
   first-hit-silent source start =
       let rows = first-hit-rows run source start in (
@@ -189,7 +189,7 @@ module _ (run : Run) (fits : run .interval ≤ 4294967295) where
       )
 
   -- That of the map call exactly if the run and all sources are, and the lists and the map have the right lengths.
-  pub map-silent : (periods weights map : List ℕ) → Silent (mapTable run periods weights map) ↔ (Valid run × (length periods ≡ length weights) × AllValid 255 (entriesOf periods weights) × (length map ≡ cellsOf run))
+  pub map-silent : (periods weights map : List ℕ) → Silent (mapTable run periods weights map) ↔ (ValidRun run × (length periods ≡ length weights) × ValidEntries 255 (entriesOf periods weights) × (length map ≡ cellsOf run))
   unfolding mapTests
   map-silent periods weights map =
       let entries = entriesOf periods weights in

@@ -20,7 +20,7 @@ use Rattle.hits.specs.declared.Listing.the-variants.{Done as Done·listing, Mor
 use Rattle.hits.specs.Promise.{saysFirstHit, saysListing, FirstHitPromise, ListingPromise}
 use Rattle.map.specs.declared.Added.{Added}
 use Rattle.map.specs.declared.Added.the-variants.{Done as Done·added, Refused as Refused·added}
-use Rattle.map.specs.Map.{saysMap, MapPromise}
+use Rattle.map.specs.Promise.{saysMap, MapPromise}
 use Rattle.saved.specs.declared.Saved.{Saved}
 use Rattle.saved.specs.declared.Saved.the-variants.{Done as Done·saved, Refused as Refused·saved}
 use Rattle.saved.specs.declared.Loaded.{Loaded}
@@ -35,7 +35,7 @@ use Rattle.exports.specs.declared.FirstHitReply.{FirstHitReply}
 use Rattle.exports.specs.declared.ListingReply.{ListingReply}
 use Rattle.exports.specs.declared.RunReply.{RunReply}
 use Rattle.exports.specs.declared.TextReply.{TextReply}
-use Rattle.exports.specs.Exported.{Exported}
+use Rattle.exports.specs.Promise.{Exported}
 use Rattle.exports.specs.Replies.{tellSteps, tellFirst, tellListing, tellAdded, tellSaved, tellLoaded, tellAnswer, tellText}
 use Rattle.demands.specs.Table.{Says, vectorsTable, firstHitTable, listingTable, mapTable, savingTable, readingTable, SaysOfText, Tells}
 use Rattle.demands.proofs.Rendered.{said-some}

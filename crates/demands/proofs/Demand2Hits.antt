@@ -10,7 +10,7 @@ use lib.IntN.{ℤ}
 use Rattle.scope.specs.declared.Run.{Run}
 use Rattle.scope.specs.declared.Source.{Source}
 use Rattle.scope.specs.declared.RunCell.{RunCell}
-use Rattle.scope.specs.Run.{Valid, ValidSource, lineOf, offsetOf}
+use Rattle.scope.specs.Run.{ValidRun, ValidSource, lineOf, offsetOf}
 use Rattle.scope.specs.Hit.{Hits, hitsFrom}
 use Rattle.scope.specs.Reply.{answered}
 use Rattle.scope.proofs.Numbering.{offset-distance}
@@ -44,11 +44,11 @@ module _ (run : Run) (source : Source) (start : RunCell) (r : FirstHit) (fine : 
 
 -- "Where a pair exists, 002's proposition 2 gives the next hit after (i, j), with A = -I/2: add (α, β) if i ≥ A - α; add (γ, δ)
 -- if i < A + I - γ; add both otherwise. Just one case applies."
-pub proposition-two : (run : Run) (source : Source) → Valid run → (left right : Vector) → IsPair (source .period) (run .interval % source .period) (run .window) left right → (i : ℤ) (j : ℕ) → InWindow run i → Hits run source i j → Cases run source left right i j
+pub proposition-two : (run : Run) (source : Source) → ValidRun run → (left right : Vector) → IsPair (source .period) (run .interval % source .period) (run .window) left right → (i : ℤ) (j : ℕ) → InWindow run i → Hits run source i j → Cases run source left right i j
 proposition-two run source v left right pair i j = Proposition.proposition-two v pair
 
 -- "A single vector leads from each hit to the next."
-pub single-next : (run : Run) (source : Source) → Valid run → ValidSource source → (only : Vector) → IsSingle (source .period) (run .interval % source .period) (run .window) only → (i : ℤ) (j : ℕ) → InWindow run i → Hits run source i j → NextHit run source j i (j + only .line)
+pub single-next : (run : Run) (source : Source) → ValidRun run → ValidSource source → (only : Vector) → IsSingle (source .period) (run .interval % source .period) (run .window) only → (i : ℤ) (j : ℕ) → InWindow run i → Hits run source i j → NextHit run source j i (j + only .line)
 single-next run source v s only single i j = Proposition.single-next v s single
 
 -- cells of one line are as far apart as their distances from its left edge

@@ -16,7 +16,7 @@ use Rattle.lattice.proofs.Differences.{go-mod}
 use Rattle.signed.proofs.Parts.{parts, up, dn, sum, neg-up, neg-dn}
 use Rattle.scope.specs.declared.Run.{Run}
 use Rattle.scope.specs.declared.Source.{Source}
-use Rattle.scope.specs.Run.{Valid, lineOf}
+use Rattle.scope.specs.Run.{ValidRun, lineOf}
 use Rattle.scope.specs.Hit.{Hits, instant}
 use Rattle.scope.specs.Refusal.{periodTests}
 use Rattle.scope.specs.Reply.{Said, refused, answered}
@@ -25,10 +25,10 @@ use Rattle.scope.proofs.Limits.{valid-window-passes}
 use Rattle.scope.proofs.Hits.{hit-hits, one-hit-on-line}
 use Rattle.vectors.specs.declared.Vector.{Vector}
 use Rattle.vectors.specs.declared.Steps.{Steps}
-use Rattle.vectors.specs.Sequence.{vector}
+use Rattle.vectors.specs.InnerSequence.{vector}
 use Rattle.vectors.specs.Vectors.{InLattice, IsPair, APair, Whole, Sum, IsSingle, Values, pair, single}
 use Rattle.vectors.specs.Promise.{vectorsTests, saysVectors, Admits, VectorsPromise}
-use Rattle.vectors.proofs.Theorems as Theorems
+use Rattle.vectors.proofs.Unique as Theorems
 use Rattle.vectors.proofs.Proposition as Proposition
 use Rattle.demands.specs.FirstHit.{HitsCell}
 use Rattle.demands.specs.StepVectors.{Asked, StepVectors}
@@ -105,7 +105,7 @@ hits-lattice run source i j =
     Iff·trans (whole-lattice run source i j) (Iff·trans whole (Iff·trans (go-mod p T (dn i) j (up i)) (rest .1, rest .0)))
 
 -- "For p ≥ I there is at most one hit on a line."
-pub one-on-line : (run : Run) (source : Source) → Valid run → run .window ≤ source .period → (x y : ℕ) → HitsCell run source x → HitsCell run source y → lineOf run x ≡ lineOf run y → x ≡ y
+pub one-on-line : (run : Run) (source : Source) → ValidRun run → run .window ≤ source .period → (x y : ℕ) → HitsCell run source x → HitsCell run source y → lineOf run x ≡ lineOf run y → x ≡ y
 one-on-line run source v wide x y h k e = one-hit-on-line v source x y wide (hit-hits run source x .1 h) (hit-hits run source y .1 k) e
 
 -- 002's proposition 2, with A = -I/2: "add (α, β) if i ≥ A - α; add (γ, δ) if i < A + I - γ; add both otherwise. Just one case

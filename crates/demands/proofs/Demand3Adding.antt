@@ -13,7 +13,7 @@ use lib.ListN.{length, getD, set, length-set}
 use lib.Seq.{getD-set-same, getD-set-other}
 use borrow.Author.Tests.{eq-eqb, ne-eqb}
 use Rattle.scope.specs.declared.Run.{Run}
-use Rattle.scope.specs.Run.{Valid, Within, cellsOf}
+use Rattle.scope.specs.Run.{ValidRun, UpTo, cellsOf}
 use Rattle.scope.specs.Hit.{isHit}
 use Rattle.sources.specs.Entry.{Entry}
 use Rattle.scope.proofs.Judged.{Passes, sound, both}
@@ -22,12 +22,12 @@ use Rattle.scope.proofs.Hits.{hit-hits}
 use Rattle.map.specs.declared.Added.{Added}
 use Rattle.map.specs.declared.Added.the-variants.{Done}
 use Rattle.map.specs.Sum.{capped, raised}
-use Rattle.map.specs.Map.{mapTests, weightAt, added, MapPromise}
+use Rattle.map.specs.Promise.{mapTests, weightAt, added, MapPromise}
 use Rattle.map.proofs.Raised.{raised-append, raised-move}
-use Rattle.sources.specs.Lists.{periodsOf, weightsOf, AllValid}
+use Rattle.sources.specs.Lists.{periodsOf, weightsOf, ValidEntries}
 use Rattle.sources.proofs.Entries.{valid-entries-pass, entries-of, periods-length, weights-length}
 use Rattle.map.proofs.Entries.{weight-shift, added-append, added-none, added-same, added-length, added-within, added-getD}
-use Rattle.map.proofs.Promise.{granted-call, stores-added, says-map-injective}
+use Rattle.map.proofs.Unique.{granted-call, stores-added, says-map-injective}
 use Rattle.demands.specs.FirstHit.{HitsCell}
 use Rattle.demands.specs.Cut.{CutFrom, Cut}
 use Rattle.demands.specs.Adding.{together, Maps, Call, Keep, leave, addedTo, NoneRefused, History, Adds}
@@ -59,24 +59,24 @@ weight-perm run x (List·Permᴰ·cons e p) = rw (e, weight-perm run x p)
 weight-perm run x (List·Permᴰ·swap e f) = rw (e, f) (omega arith)
 weight-perm run x (List·Permᴰ·trans p q) = weight-perm run x p ∙ weight-perm run x q
 
-valid-perm : {a b : List Entry} → List·Permᴰ a b → AllValid 255 b → AllValid 255 a
+valid-perm : {a b : List Entry} → List·Permᴰ a b → ValidEntries 255 b → ValidEntries 255 a
 valid-perm List·Permᴰ·nil v = v
 valid-perm (List·Permᴰ·cons e p) v = (rw e (v .0), valid-perm p (v .1))
 valid-perm (List·Permᴰ·swap e f) v = (rw e (v .1 .0), (rw f (v .0), v .1 .1))
 valid-perm (List·Permᴰ·trans p q) v = valid-perm p (valid-perm q v)
 
-valid-first : (a b : List Entry) → AllValid 255 (a ++ b) → AllValid 255 a
+valid-first : (a b : List Entry) → ValidEntries 255 (a ++ b) → ValidEntries 255 a
 valid-first [] b v = tt
 valid-first (e ∷ a) b v = (v .0, valid-first a b (v .1))
 
-valid-second : (a b : List Entry) → AllValid 255 (a ++ b) → AllValid 255 b
+valid-second : (a b : List Entry) → ValidEntries 255 (a ++ b) → ValidEntries 255 b
 valid-second [] b v = v
 valid-second (e ∷ a) b v = valid-second a b (v .1)
 
 -- ---- a call's lists
 
 -- nothing is wrong with a call of entries within the limits on a map of the exact length
-call-passes : {block : Run} (entries : List Entry) (map : List ℕ) → Valid block → AllValid 255 entries → length map ≡ cellsOf block → Passes (mapTests 255 block (periodsOf entries) (weightsOf entries) map)
+call-passes : {block : Run} (entries : List Entry) (map : List ℕ) → ValidRun block → ValidEntries 255 entries → length map ≡ cellsOf block → Passes (mapTests 255 block (periodsOf entries) (weightsOf entries) map)
 unfolding mapTests
 call-passes entries map v w e =
     both
@@ -86,7 +86,7 @@ call-passes entries map v w e =
     (sound (ap not (eq-eqb _ _ e)))
 
 -- such a call, if it keeps its promise, is not refused and adds its entries
-call-adds : {block : Run} (entries : List Entry) {map : List ℕ} {answer : Added} {after : List ℕ} → Valid block → AllValid 255 entries → length map ≡ cellsOf block → MapPromise block (periodsOf entries) (weightsOf entries) map answer after → (answer ≡ Done) × (after ≡ added 255 block entries map)
+call-adds : {block : Run} (entries : List Entry) {map : List ℕ} {answer : Added} {after : List ℕ} → ValidRun block → ValidEntries 255 entries → length map ≡ cellsOf block → MapPromise block (periodsOf entries) (weightsOf entries) map answer after → (answer ≡ Done) × (after ≡ added 255 block entries map)
 call-adds {block} entries {map} {answer} {after} v w e m =
     let got = stores-added (call-passes entries map v w e) m in
     (says-map-injective answer Done (got .0), got .1 ∙ ap (λ (l : List Entry). added 255 block l map) (entries-of entries))
@@ -101,19 +101,19 @@ to-other : (call : Call) (calls : List Call) (k : ℕ) → (call .block ≡ k �
 unfolding addedTo
 to-other call calls k e = rw (ne-eqb _ _ e)
 
-module _ (run : Run) (blocks : List Run) (valid : (k : ℕ) → k < length blocks → Valid (getD blocks k run)) where
+module _ (run : Run) (blocks : List Run) (valid : (k : ℕ) → k < length blocks → ValidRun (getD blocks k run)) where
   -- what holds of the blocks' maps between two calls
   record State (maps : List (List ℕ)) : Type 0 where
     as-many : length maps ≡ length blocks
     sized : (k : ℕ) → k < length blocks → length (getD maps k []) ≡ cellsOf (getD blocks k run)
-    bytes : (k : ℕ) → Within 255 (getD maps k [])
+    bytes : (k : ℕ) → UpTo 255 (getD maps k [])
 
   -- every entry still to be added is within the limits
   Left : List Call → Type 0
-  Left calls = (k : ℕ) → k < length blocks → AllValid 255 (addedTo k calls)
+  Left calls = (k : ℕ) → k < length blocks → ValidEntries 255 (addedTo k calls)
 
   module _ (call : Call) (calls : List Call) (inside : call .block < length blocks) (left : Left (call ∷ calls)) where
-    own : AllValid 255 (call .entries)
+    own : ValidEntries 255 (call .entries)
     unfolding Left
     own = valid-first (call .entries) (addedTo (call .block) calls) (rw (to-this call calls (call .block) refl) at (left (call .block) inside))
 
@@ -121,7 +121,7 @@ module _ (run : Run) (blocks : List Run) (valid : (k : ℕ) → k < length block
     unfolding Left
     next-left k h = go (ℕ-discrete (call .block) k)
       where
-        go : Dec (call .block ≡ k) → AllValid 255 (addedTo k calls)
+        go : Dec (call .block ≡ k) → ValidEntries 255 (addedTo k calls)
         go (yes e) = valid-second (call .entries) (addedTo k calls) (rw (to-this call calls k e) at (left k h))
         go (no e) = rw (to-other call calls k e) at (left k h)
 
@@ -144,7 +144,7 @@ module _ (run : Run) (blocks : List Run) (valid : (k : ℕ) → k < length block
         size k h (yes e) = rw (← e, here, adds) (added-length 255 _ (call .entries) _ ∙ state .sized (call .block) inside)
         size k h (no e) = rw (elsewhere k e) (state .sized k h)
 
-        small : (k : ℕ) → Dec (call .block ≡ k) → Within 255 (getD (set maps (call .block) (call .after)) k [])
+        small : (k : ℕ) → Dec (call .block ≡ k) → UpTo 255 (getD (set maps (call .block) (call .after)) k [])
         small k (yes e) = rw (← e, here, adds) (added-within 255 _ (call .entries) _)
         small k (no e) = rw (elsewhere k e) (state .bytes k)
 
@@ -185,7 +185,7 @@ module _ (run : Run) (blocks : List Run) (valid : (k : ℕ) → k < length block
 
 -- ---- from the blocks to the run
 
-joins : (run : Run) → Valid run → (sources : List Entry) (first : ℕ) (blocks : List Run) (maps after : List (List ℕ)) → run .first ≤ first → CutFrom run first blocks → Maps blocks maps → length after ≡ length blocks → ((k : ℕ) → k < length blocks → getD after k [] ≡ added 255 (getD blocks k run) sources (getD maps k [])) → together after ≡ raised 255 (weightAt run sources) (before run first) (together maps)
+joins : (run : Run) → ValidRun run → (sources : List Entry) (first : ℕ) (blocks : List Run) (maps after : List (List ℕ)) → run .first ≤ first → CutFrom run first blocks → Maps blocks maps → length after ≡ length blocks → ((k : ℕ) → k < length blocks → getD after k [] ≡ added 255 (getD blocks k run) sources (getD maps k [])) → together after ≡ raised 255 (weightAt run sources) (before run first) (together maps)
 unfolding raised added
 joins run v sources first [] [] [] low c s l e = refl
 joins run v sources first [] [] (a ∷ after) low c s l e = absurd (omega arith)
@@ -211,7 +211,7 @@ pub blocks-add : {run : Run} {blocks : List Run} {sources : List Entry} {maps : 
 unfolding Left added
 blocks-add {run} {blocks} {sources} {maps} {calls} h =
     let at = valid-at run (h .valid) blocks (h .cut) in
-    let valid : (k : ℕ) → k < length blocks → Valid (getD blocks k run) = λ k i. at k i .valid in
+    let valid : (k : ℕ) → k < length blocks → ValidRun (getD blocks k run) = λ k i. at k i .valid in
     let state : State run blocks valid maps = record { as-many = maps-length run blocks maps (h .sized); sized = map-at run blocks maps (h .sized); bytes = h .bytes } in
     let out = outcome run blocks valid calls maps state (h .keep) (λ k i. valid-perm (h .once k i) (h .within)) in
     let each : (k : ℕ) → k < length blocks → getD (leave maps calls) k [] ≡ added 255 (getD blocks k run) sources (getD maps k []) =
@@ -267,7 +267,7 @@ to-each run blocks sources (suc n) maps k h = go (ℕ-discrete n k) (λ i. to-ea
     go (yes e) more = to-this (call-on run blocks sources maps n) (calls-on run blocks sources maps′ n) k e ∙ ap (λ l. sources ++ l) (to-later run blocks sources n maps′ k (omega arith)) ∙ append-nil sources
     go (no e) more = to-other (call-on run blocks sources maps n) (calls-on run blocks sources maps′ n) k e ∙ more (omega arith)
 
-keep-each : (run : Run) (blocks : List Run) (valid : (k : ℕ) → k < length blocks → Valid (getD blocks k run)) (sources : List Entry) → AllValid 255 sources → (n : ℕ) (maps : List (List ℕ)) → n ≤ length blocks → State run blocks valid maps → Keep run blocks maps (calls-on run blocks sources maps n)
+keep-each : (run : Run) (blocks : List Run) (valid : (k : ℕ) → k < length blocks → ValidRun (getD blocks k run)) (sources : List Entry) → ValidEntries 255 sources → (n : ℕ) (maps : List (List ℕ)) → n ≤ length blocks → State run blocks valid maps → Keep run blocks maps (calls-on run blocks sources maps n)
 keep-each run blocks valid sources w zero maps h state = tt
 keep-each run blocks valid sources w (suc n) maps h state =
     let call = call-on run blocks sources maps n in
@@ -281,9 +281,9 @@ keep-each run blocks valid sources w (suc n) maps h state =
 -- For every valid run, every cut of it, all sources within the limits and all maps of bytes of the exact length there is one
 -- history at least, the one above: it shows that the theorems over histories are not empty, and no more. That other orders, with
 -- the sources spread over more calls, add up too is what `blocks-add` says of every history.
-pub history-exists : {run : Run} {blocks : List Run} {sources : List Entry} {maps : List (List ℕ)} → Valid run → Cut run blocks → AllValid 255 sources → Maps blocks maps → ((k : ℕ) → Within 255 (getD maps k [])) → (calls : List Call) × History run blocks sources maps calls
+pub history-exists : {run : Run} {blocks : List Run} {sources : List Entry} {maps : List (List ℕ)} → ValidRun run → Cut run blocks → ValidEntries 255 sources → Maps blocks maps → ((k : ℕ) → UpTo 255 (getD maps k [])) → (calls : List Call) × History run blocks sources maps calls
 history-exists {run} {blocks} {sources} {maps} v cut w sized bytes =
-    let valid : (k : ℕ) → k < length blocks → Valid (getD blocks k run) = λ k i. valid-at run v blocks cut k i .valid in (
+    let valid : (k : ℕ) → k < length blocks → ValidRun (getD blocks k run) = λ k i. valid-at run v blocks cut k i .valid in (
       calls-on run blocks sources maps (length blocks),
       record {
         valid = v;

@@ -12,7 +12,7 @@ use lib.IntN.{ℤ}
 use Rattle.scope.specs.declared.Run.{Run}
 use Rattle.scope.specs.declared.Source.{Source}
 use Rattle.scope.specs.declared.RunCell.{RunCell}
-use Rattle.scope.specs.Run.{Valid, ValidSource, InRun, cellsOf, lineOf, offsetOf, toRun}
+use Rattle.scope.specs.Run.{ValidRun, ValidSource, InRun, cellsOf, lineOf, offsetOf, toRun}
 use Rattle.scope.specs.Hit.{Hits, hitsFrom}
 use Rattle.scope.proofs.Limits.{window-cells}
 use Rattle.scope.proofs.Numbering.{cell-order, number-cell}
@@ -36,17 +36,17 @@ joined-blocks run source (block ∷ blocks) lists =
     ap₂ (λ (a b : List RunCell). a ++ b) here (joined-blocks run source blocks (lists .1)) ∙ sym (map-append (λ x. record { 0 = x }) (moved run block (hitsFrom block source 0)) (blockHits run source blocks))
 
 -- For every valid run, every cut of it and whatever chain of calls in each block: the joined lists are the list of the run's hits.
-pub joined-is : (run : Run) (source : Source) (blocks : List Run) → Valid run → Cut run blocks → (lists : Listings source blocks) → joined run source blocks lists ≡ runCells (hitsFrom run source 0)
+pub joined-is : (run : Run) (source : Source) (blocks : List Run) → ValidRun run → Cut run blocks → (lists : Listings source blocks) → joined run source blocks lists ≡ runCells (hitsFrom run source 0)
 joined-is run source blocks v cut lists = joined-blocks run source blocks lists ∙ ap runCells (cut-hits v source blocks cut)
 
 -- a strictly rising list goes by line and then by offset
-in-order : {run : Run} → Valid run → (x : ℕ) (numbers : List ℕ) → Rising x numbers → InOrder run (runCells numbers)
+in-order : {run : Run} → ValidRun run → (x : ℕ) (numbers : List ℕ) → Rising x numbers → InOrder run (runCells numbers)
 in-order v x [] r = tt
 in-order v x (y ∷ []) r = tt
 in-order v x (y ∷ z ∷ numbers) r = (cell-order v y z .0 (omega arith), in-order v (suc y) (z ∷ numbers) (r .1))
 
 -- The list of the run's hits is what it is called.
-pub every-hit-once : (run : Run) (source : Source) → Valid run → EveryHitOnce run source (runCells (hitsFrom run source 0))
+pub every-hit-once : (run : Run) (source : Source) → ValidRun run → EveryHitOnce run source (runCells (hitsFrom run source 0))
 every-hit-once run source v = record {
   order = in-order v 0 (hitsFrom run source 0) (hits-rising run source 0);
   exactly = λ y.
@@ -57,16 +57,16 @@ every-hit-once run source v = record {
 }
 
 -- and back
-in-order-rises : {run : Run} → Valid run → (x : RunCell) (cells : List RunCell) → InOrder run (x ∷ cells) → Rising (suc (x .0)) (numbersOf cells)
+in-order-rises : {run : Run} → ValidRun run → (x : RunCell) (cells : List RunCell) → InOrder run (x ∷ cells) → Rising (suc (x .0)) (numbersOf cells)
 in-order-rises v x [] o = tt
 in-order-rises v x (y ∷ cells) o = (cell-order v (x .0) (y .0) .1 (o .0), in-order-rises v y cells (o .1))
 
-in-order-rising : {run : Run} → Valid run → (cells : List RunCell) → InOrder run cells → Rising 0 (numbersOf cells)
+in-order-rising : {run : Run} → ValidRun run → (cells : List RunCell) → InOrder run cells → Rising 0 (numbersOf cells)
 in-order-rising v [] o = tt
 in-order-rising v (x ∷ cells) o = (omega arith, in-order-rises v x cells o)
 
 -- No other list is.
-pub every-hit-unique : (run : Run) (source : Source) → Valid run → (a b : List RunCell) → EveryHitOnce run source a → EveryHitOnce run source b → a ≡ b
+pub every-hit-unique : (run : Run) (source : Source) → ValidRun run → (a b : List RunCell) → EveryHitOnce run source a → EveryHitOnce run source b → a ≡ b
 every-hit-unique run source v a b h k = sym (numbered a) ∙ ap runCells same ∙ numbered b
   where
     each : (y : ℕ) → List·Memᴰ y (numbersOf a) ↔ List·Memᴰ y (numbersOf b)
@@ -81,16 +81,16 @@ every-hit-unique run source v a b h k = sym (numbered a) ∙ ap runCells same �
 
 -- "the count is that of the hits by the definition above": a list with every hit once is as long as the list that hits are
 -- counted by.
-pub hit-count : (run : Run) (source : Source) → Valid run → (cells : List RunCell) → EveryHitOnce run source cells → length (hitsFrom run source 0) ≡ length cells
+pub hit-count : (run : Run) (source : Source) → ValidRun run → (cells : List RunCell) → EveryHitOnce run source cells → length (hitsFrom run source 0) ≡ length cells
 hit-count run source v cells h =
     sym (length-map (hitsFrom run source 0) (λ x. record { 0 = x })) ∙ ap length (every-hit-unique run source v (runCells (hitsFrom run source 0)) cells (every-hit-once run source v) h)
 
 -- "Joined in line order, the lists hold every hit of that source in the run once, none besides, by line and then by offset."
-pub joined-holds : (run : Run) (source : Source) (blocks : List Run) → Valid run → Cut run blocks → (lists : Listings source blocks) → EveryHitOnce run source (joined run source blocks lists)
+pub joined-holds : (run : Run) (source : Source) (blocks : List Run) → ValidRun run → Cut run blocks → (lists : Listings source blocks) → EveryHitOnce run source (joined run source blocks lists)
 joined-holds run source blocks v cut lists = subst (EveryHitOnce run source) (sym (joined-is run source blocks v cut lists)) (every-hit-once run source v)
 
 -- The same by places: a place of the run stands in the joined lists exactly if the source hits it.
-pub joined-places : (run : Run) (source : Source) (blocks : List Run) → Valid run → Cut run blocks → (lists : Listings source blocks) (i : ℤ) (j : ℕ) → InRun run i j → Hits run source i j ↔ ((y : RunCell) × List·Memᴰ y (joined run source blocks lists) × (offsetOf run (y .0) ≡ i) × (lineOf run (y .0) ≡ j))
+pub joined-places : (run : Run) (source : Source) (blocks : List Run) → ValidRun run → Cut run blocks → (lists : Listings source blocks) (i : ℤ) (j : ℕ) → InRun run i j → Hits run source i j ↔ ((y : RunCell) × List·Memᴰ y (joined run source blocks lists) × (offsetOf run (y .0) ≡ i) × (lineOf run (y .0) ≡ j))
 joined-places run source blocks v cut lists i j inside = (to, from)
   where
     holds : EveryHitOnce run source (joined run source blocks lists)
@@ -106,13 +106,13 @@ joined-places run source blocks v cut lists i j inside = (to, from)
     from h = rw (h .2, h .3) at (holds .exactly (h .0) .0 (h .1) .1)
 
 -- "The certificate then compares readings that don't belong together": not so. Two cuts, and whatever calls, have one list.
-pub joined-same : (run : Run) (source : Source) → Valid run → (blocks blocks′ : List Run) → Cut run blocks → Cut run blocks′ → (lists : Listings source blocks) (lists′ : Listings source blocks′) → joined run source blocks lists ≡ joined run source blocks′ lists′
+pub joined-same : (run : Run) (source : Source) → ValidRun run → (blocks blocks′ : List Run) → Cut run blocks → Cut run blocks′ → (lists : Listings source blocks) (lists′ : Listings source blocks′) → joined run source blocks lists ≡ joined run source blocks′ lists′
 joined-same run source v blocks blocks′ c c′ lists lists′ = joined-is run source blocks v c lists ∙ sym (joined-is run source blocks′ v c′ lists′)
 
 -- ---- such lists exist
 
 -- "any room above nothing": for each supply of rooms there is a chain of calls that the rooms are lent to.
-pub chain-exists : (block : Run) (source : Source) → Valid block → ValidSource source → (rooms : ℕ → List ℕ) → ((k : ℕ) → 1 ≤ length (rooms k)) → (chain : Chain block source (record { 0 = 0 })) × Lends rooms chain
+pub chain-exists : (block : Run) (source : Source) → ValidRun block → ValidSource source → (rooms : ℕ → List ℕ) → ((k : ℕ) → 1 ≤ length (rooms k)) → (chain : Chain block source (record { 0 = 0 })) × Lends rooms chain
 chain-exists block source v w rooms above =
     let c = lent-exists v w (record { 0 = 0 }) (omega (arith, window-cells v)) rooms above in
     (c .chain, c .lends)
@@ -128,13 +128,13 @@ mores-end block source start calls mores = few-mores mores
 
 -- No call of such a chain is refused, whichever outcome the promise admits: the first starts at a cell of the block, and where
 -- a call says "more from", the next one does.
-pub call-answered : (block : Run) (source : Source) → Valid block → ValidSource source → (start : RunCell) → start .0 < cellsOf block → (room : List ℕ) → 1 ≤ length room → (r : Listing) (after : List ℕ) → ListingPromise block source start room r after → Answered block r
+pub call-answered : (block : Run) (source : Source) → ValidRun block → ValidSource source → (start : RunCell) → start .0 < cellsOf block → (room : List ℕ) → 1 ≤ length room → (r : Listing) (after : List ℕ) → ListingPromise block source start room r after → Answered block r
 call-answered block source v w start inside room lent (Done n) after h = tt
 call-answered block source v w start inside room lent (More n next) after h = goes-inside h
 call-answered block source v w start inside room lent (Refused n) after h = not-refused v w start inside room lent (Refused n) after h n refl
 
 -- And so there are lists for every cut of a valid run, whatever rooms above nothing: to each block's calls its own supply is lent.
-pub listings-exist : (run : Run) (source : Source) → Valid run → ValidSource source → (blocks : List Run) → Cut run blocks → (rooms : Run → ℕ → List ℕ) → ((block : Run) → List·Memᴰ block blocks → (k : ℕ) → 1 ≤ length (rooms block k)) → (lists : Listings source blocks) × LendsEach rooms source blocks lists
+pub listings-exist : (run : Run) (source : Source) → ValidRun run → ValidSource source → (blocks : List Run) → Cut run blocks → (rooms : Run → ℕ → List ℕ) → ((block : Run) → List·Memᴰ block blocks → (k : ℕ) → 1 ≤ length (rooms block k)) → (lists : Listings source blocks) × LendsEach rooms source blocks lists
 listings-exist run source v w blocks cut rooms above = each blocks (λ block m. m)
   where
     each : (some : List Run) → ((block : Run) → List·Memᴰ block some → List·Memᴰ block blocks) → (lists : Listings source some) × LendsEach rooms source some lists

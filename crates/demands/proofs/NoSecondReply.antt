@@ -10,14 +10,14 @@ use Rattle.scope.specs.declared.Source.{Source}
 use Rattle.scope.specs.declared.RunCell.{RunCell}
 use Rattle.vectors.specs.declared.Steps.{Steps}
 use Rattle.vectors.specs.Promise.{VectorsPromise}
-use Rattle.vectors.proofs.Theorems as Vectors
+use Rattle.vectors.proofs.Unique as Vectors
 use Rattle.hits.specs.declared.FirstHit.{FirstHit}
 use Rattle.hits.specs.declared.Listing.{Listing}
 use Rattle.hits.specs.Promise.{FirstHitPromise, ListingPromise}
-use Rattle.hits.proofs.Theorems as Hits
+use Rattle.hits.proofs.Unique as Hits
 use Rattle.map.specs.declared.Added.{Added}
-use Rattle.map.specs.Map.{MapPromise}
-use Rattle.map.proofs.Promise as Map
+use Rattle.map.specs.Promise.{MapPromise}
+use Rattle.map.proofs.Unique as Map
 use Rattle.saved.specs.declared.Saved.{Saved}
 use Rattle.saved.specs.declared.Loaded.{Loaded}
 use Rattle.saved.specs.Promise.{SavingPromise, ReadingPromise}

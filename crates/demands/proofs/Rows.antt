@@ -18,7 +18,7 @@ use Rattle.scope.specs.Refusal.{number, windowTests, lineTests, runTests, perio
 use Rattle.sources.specs.Entry.{Entry, entriesOf, entryTests, listTests}
 use Rattle.vectors.specs.Promise.{vectorsTests}
 use Rattle.hits.specs.Promise.{firstHitTests, listingTests}
-use Rattle.map.specs.Map.{mapTests}
+use Rattle.map.specs.Promise.{mapTests}
 use Rattle.scope.proofs.Hits.{hit-or-miss}
 use Rattle.blocks.specs.Block.{fourAt, contents, allZero, sealedWith, blockTests}
 use Rattle.blocks.proofs.Differs.{sealed-right}

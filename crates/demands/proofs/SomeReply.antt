@@ -15,7 +15,7 @@ use Rattle.scope.specs.Reply.{Said, refused, answered, reply, stored}
 use Rattle.scope.proofs.Judged.{Fails, Passes}
 use Rattle.vectors.specs.declared.Steps.{Steps}
 use Rattle.vectors.specs.Promise.{VectorsPromise}
-use Rattle.vectors.proofs.Theorems as Vectors
+use Rattle.vectors.proofs.Unique as Vectors
 use Rattle.hits.specs.declared.FirstHit.{FirstHit}
 use Rattle.hits.specs.declared.FirstHit.the-variants.{At, Nothing, Refused}
 use Rattle.hits.specs.declared.Listing.{Listing}
@@ -23,8 +23,8 @@ use Rattle.hits.specs.declared.Listing.the-variants.{Done, More, Refused as Ref
 use Rattle.hits.specs.Promise.{firstHitTests, listingTests, first, saysFirstHit, Listed, saysListing, listed, written, FirstHitPromise, ListingPromise}
 use Rattle.map.specs.declared.Added.{Added}
 use Rattle.map.specs.declared.Added.the-variants.{Done as Done·map, Refused as Refused·map}
-use Rattle.map.specs.Map.{mapTests, MapPromise}
-use Rattle.map.proofs.Promise.{refused-call, granted-call}
+use Rattle.map.specs.Promise.{mapTests, MapPromise}
+use Rattle.map.proofs.Unique.{refused-call, granted-call}
 use Rattle.saved.specs.declared.Saved.{Saved}
 use Rattle.saved.specs.declared.Saved.the-variants.{Done as Done·saved, Refused as Refused·saved}
 use Rattle.saved.specs.declared.Loaded.{Loaded}

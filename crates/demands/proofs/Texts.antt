@@ -12,11 +12,11 @@ use lib.ListN.{length, take, length-take}
 use lib.Seq.{take-all}
 use borrow.Author.Tests.{ltb-false, le-ltb}
 use Rattle.scope.specs.declared.Run.{Run}
-use Rattle.scope.specs.Run.{Valid, cellsOf}
+use Rattle.scope.specs.Run.{ValidRun, cellsOf}
 use Rattle.sources.specs.Entry.{Entry}
 use Rattle.scope.proofs.Judged.{Passes, sound, both, grant-reply, grant-stored}
 use Rattle.scope.proofs.Limits.{passes-when, passes-first, passes-then, valid-run, valid-run-passes}
-use Rattle.sources.specs.Lists.{AllValid}
+use Rattle.sources.specs.Lists.{ValidEntries}
 use Rattle.sources.proofs.Entries.{valid-entries, valid-entries-pass}
 use Rattle.text.specs.declared.Answer.the-variants.{Read}
 use Rattle.text.specs.declared.Input.{Input}
@@ -30,10 +30,10 @@ use Rattle.report.proofs.Unique.{output-prints}
 use Rattle.demands.specs.Texts.{Listable, printedBy}
 
 -- what is within the limits has small numbers
-run-small : {run : Run} → Valid run → Small (runNumbers run)
+run-small : {run : Run} → ValidRun run → Small (runNumbers run)
 run-small v = (omega arith, (omega arith, (omega arith, (omega arith, tt))))
 
-all-small : (entries : List Entry) → AllValid 255 entries → AllSmall entries
+all-small : (entries : List Entry) → ValidEntries 255 entries → AllSmall entries
 all-small [] w = tt
 all-small (entry ∷ entries) w =
     let own = w .0 in

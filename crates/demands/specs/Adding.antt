@@ -9,13 +9,13 @@ use lib.ListN.{length, getD, set}
 use Rattle.scope.specs.declared.Run.{Run}
 use Rattle.scope.specs.declared.RunCell.{RunCell}
 use Rattle.scope.specs.declared.BlockCell.{BlockCell}
-use Rattle.scope.specs.Run.{Valid, Within, cellsOf, toRun}
+use Rattle.scope.specs.Run.{ValidRun, UpTo, cellsOf, toRun}
 use Rattle.sources.specs.Entry.{Entry}
 use Rattle.map.specs.declared.Added.{Added}
 use Rattle.map.specs.declared.Added.the-variants.{Done}
 use Rattle.map.specs.Sum.{capped}
-use Rattle.map.specs.Map.{weightAt, added, MapPromise}
-use Rattle.sources.specs.Lists.{periodsOf, weightsOf, AllValid}
+use Rattle.map.specs.Promise.{weightAt, added, MapPromise}
+use Rattle.sources.specs.Lists.{periodsOf, weightsOf, ValidEntries}
 use Rattle.demands.specs.Cut.{Cut}
 
 -- What the blocks' maps hold, joined in line order.
@@ -62,11 +62,11 @@ NoneRefused (call ∷ calls) = (call .answer ≡ Done) × NoneRefused calls
 
 -- A cut of a run, sources within the limits, a map of bytes for each block, and calls that add each source once to each block.
 pub record History (run : Run) (blocks : List Run) (sources : List Entry) (maps : List (List ℕ)) (calls : List Call) : Type 0 where
-  pub valid : Valid run
+  pub valid : ValidRun run
   pub cut : Cut run blocks
-  pub within : AllValid 255 sources
+  pub within : ValidEntries 255 sources
   pub sized : Maps blocks maps
-  pub bytes : (k : ℕ) → Within 255 (getD maps k [])
+  pub bytes : (k : ℕ) → UpTo 255 (getD maps k [])
   pub keep : Keep run blocks maps calls
   pub once : (k : ℕ) → k < length blocks → List·Permᴰ (addedTo k calls) sources
 

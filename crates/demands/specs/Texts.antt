@@ -2,16 +2,16 @@
 use Prim.Native.Nat.{ℕ, _≤_}
 use mathlib.Core.List.{List}
 use lib.ListN.{length, take}
-use Rattle.scope.specs.Run.{Valid, cellsOf}
-use Rattle.sources.specs.Lists.{AllValid}
+use Rattle.scope.specs.Run.{ValidRun, cellsOf}
+use Rattle.sources.specs.Lists.{ValidEntries}
 use Rattle.text.specs.Form.{Content}
 use Rattle.report.specs.declared.Output.{Output}
 
 -- A run and sources within the limits: those of the table of ranges, and 12's "more than 64 sources, or a run of more than
 -- 65,536 cells" kept.
 pub record Listable (content : Content) : Type 0 where
-  pub valid : Valid (content .run)
-  pub within : AllValid 255 (content .entries)
+  pub valid : ValidRun (content .run)
+  pub within : ValidEntries 255 (content .entries)
   pub sources : length (content .entries) ≤ 64
   pub cells : cellsOf (content .run) ≤ 65536
 

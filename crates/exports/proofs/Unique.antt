@@ -7,11 +7,11 @@ use Rattle.scope.specs.declared.Run.{Run}
 use Rattle.scope.specs.declared.Source.{Source}
 use Rattle.scope.specs.declared.RunCell.{RunCell}
 use Rattle.vectors.specs.Promise.{VectorsPromise}
-use Rattle.vectors.proofs.Theorems.{vectors-unique}
+use Rattle.vectors.proofs.Unique.{vectors-unique}
 use Rattle.hits.specs.Promise.{FirstHitPromise, ListingPromise}
-use Rattle.hits.proofs.Theorems.{first-hit-unique, listing-unique}
-use Rattle.map.specs.Map.{MapPromise}
-use Rattle.map.proofs.Promise.{map-unique}
+use Rattle.hits.proofs.Unique.{first-hit-unique, listing-unique}
+use Rattle.map.specs.Promise.{MapPromise}
+use Rattle.map.proofs.Unique.{map-unique}
 use Rattle.saved.specs.Promise.{SavingPromise, ReadingPromise}
 use Rattle.saved.proofs.RoundTrips.{saving-unique, reading-unique}
 use Rattle.text.specs.Promise.{TextPromise}
@@ -21,7 +21,7 @@ use Rattle.exports.specs.declared.FirstHitReply.{FirstHitReply}
 use Rattle.exports.specs.declared.ListingReply.{ListingReply}
 use Rattle.exports.specs.declared.RunReply.{RunReply}
 use Rattle.exports.specs.declared.TextReply.{TextReply}
-use Rattle.exports.specs.Exported.{Exported}
+use Rattle.exports.specs.Promise.{Exported}
 use Rattle.exports.specs.Replies.{tellSteps, tellFirst, tellListing, tellAdded, tellSaved, tellLoaded, tellText}
 
 -- Where no second reply fits, no second answer does. (Two promises: of what is lent, each may name what it holds afterwards.)

@@ -1,2 +1,2 @@
-pub mod Exported
+pub mod Promise
 pub mod Replies

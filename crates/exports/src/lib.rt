@@ -15,10 +15,10 @@ use vectors::Steps;
 ghost use mathlib.Core.Path.{_≡_};
 ghost use Rattle.vectors.specs.Promise.{VectorsPromise};
 ghost use Rattle.hits.specs.Promise.{FirstHitPromise, ListingPromise};
-ghost use Rattle.map.specs.Map.{MapPromise};
+ghost use Rattle.map.specs.Promise.{MapPromise};
 ghost use Rattle.saved.specs.Promise.{SavingPromise, ReadingPromise};
 ghost use Rattle.text.specs.Promise.{TextPromise};
-ghost use Rattle.exports.specs.Exported.{Exported};
+ghost use Rattle.exports.specs.Promise.{Exported};
 ghost use Rattle.exports.specs.Replies.{runWith, sourceWith, cellWith, tellSteps, tellFirst, tellListing, tellAdded, tellSaved, tellLoaded, tellAnswer, tellText};
 
 // The step vectors.

@@ -23,10 +23,10 @@ use Rattle.scope.specs.Reply.{Said, refused, answered, reply, stored}
 use Rattle.scope.proofs.Judged.{Passes, broken, sound, then, both, grant-reply, grant-stored, said-answered}
 use Rattle.scope.proofs.Limits.{passes-then}
 use Rattle.scope.proofs.Hits.{hits-remainder}
-use Rattle.vectors.specs.Sequence.{vector}
+use Rattle.vectors.specs.InnerSequence.{vector}
 use Rattle.vectors.specs.Vectors.{InLattice, IsPair, Values}
 use Rattle.vectors.specs.Promise.{vectorsTests, saysVectors, Admits, VectorsPromise}
-use Rattle.vectors.proofs.Theorems.{said-unique}
+use Rattle.vectors.proofs.Unique.{said-unique}
 use Rattle.saved.specs.declared.Saved.{Saved}
 use Rattle.saved.specs.declared.Saved.the-variants.{Done as Done·saved, Refused as Refused·saved}
 use Rattle.blocks.specs.Block.{fourAt}
@@ -35,8 +35,8 @@ use Rattle.saved.specs.File.{fileLength, fileOf, savingTests}
 use Rattle.saved.specs.Promise.{saysSaving, SavingPromise}
 use Rattle.saved.proofs.Promises.{refuse-saving, grant-saving}
 use Rattle.map.specs.declared.Added.the-variants.{Done as Done·map}
-use Rattle.map.specs.Map.{MapPromise}
-use Rattle.map.proofs.Promise.{map-unique}
+use Rattle.map.specs.Promise.{MapPromise}
+use Rattle.map.proofs.Unique.{map-unique}
 use Rattle.hits.specs.declared.Listing.{Listing}
 use Rattle.hits.specs.declared.Listing.the-variants.{Done, More, Refused}
 use Rattle.hits.specs.Promise.{firstHitTests, listingTests, first as first-of, Listed, saysListing, listed, written, ListingPromise}

@@ -9,7 +9,7 @@ use Rattle.scope.specs.Hit.{instant, isHit, hitsAmong, hitsFrom}
 use Rattle.scope.specs.Refusal.{complaint, number, windowTests, lineTests, periodTests, weightTests, runTests}
 use Rattle.sources.specs.Entry.{entriesOf, entryTests, listTests}
 use Rattle.map.specs.Sum.{raised}
-use Rattle.map.specs.Map.{mapTests, weightAt, added}
+use Rattle.map.specs.Promise.{mapTests, weightAt, added}
 use Rattle.vectors.specs.Promise.{vectorsTests}
 use Rattle.blocks.specs.Block.{four, fourAt, weighted, checkOf, filled, sealed, blockOf}
 use Rattle.saved.specs.File.{heading, firstJoined, cellBlocks, blocksFor, fileLength, fileOf}

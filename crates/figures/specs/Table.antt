@@ -14,7 +14,7 @@ use Rattle.vectors.specs.Vectors.{Values, pair, single}
 use Rattle.vectors.specs.Promise.{saysVectors, VectorsPromise}
 use Rattle.map.specs.declared.Added.{Added}
 use Rattle.map.specs.declared.Added.the-variants.{Done as Done·map}
-use Rattle.map.specs.Map.{MapPromise}
+use Rattle.map.specs.Promise.{MapPromise}
 use Rattle.saved.specs.declared.Saved.{Saved}
 use Rattle.saved.specs.declared.Saved.the-variants.{Done as Done·saved}
 use Rattle.blocks.specs.Block.{fourAt}

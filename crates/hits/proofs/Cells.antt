@@ -11,18 +11,18 @@ use Rattle.lattice.proofs.Differences.{On, Go, on-go, go-mod}
 use Rattle.lattice.proofs.Row.{Leftmost, on-line, leftmost}
 use Rattle.scope.specs.declared.Run.{Run}
 use Rattle.scope.specs.declared.Source.{Source}
-use Rattle.scope.specs.Run.{Valid, ValidSource, linesOf, cellsOf, lineOf}
+use Rattle.scope.specs.Run.{ValidRun, ValidSource, linesOf, cellsOf, lineOf}
 use Rattle.scope.specs.Hit.{isHit}
 use Rattle.scope.proofs.Numbering.{line-at, distance-at}
 use Rattle.scope.proofs.Hits as scope
 use Rattle.scope.proofs.Hits.{origin, hit-on, miss-on}
 use Rattle.vectors.specs.declared.Turn.{Turn}
-use Rattle.vectors.specs.Sequence.{firstTwo, Successive}
+use Rattle.vectors.specs.InnerSequence.{firstTwo, Successive}
 use Rattle.vectors.proofs.Found.{first-two, start-left}
 use Rattle.vectors.proofs.Sequence.{size-of}
 use Rattle.hits.specs.declared.search.Point.{Point}
 use Rattle.hits.specs.declared.search.Found.the-variants.{Nothing}
-use Rattle.hits.specs.Search.{Seeking, FirstFrom, Enters, Sought}
+use Rattle.hits.specs.InnerSearch.{Seeking, FirstFrom, Enters, Sought}
 
 -- ---- cells by lines and distances
 
@@ -65,23 +65,23 @@ pub arrive : (run : Run) (source : Source) {d j Y e : ℕ} → Points run source
 arrive run source {d} {Y = Y} {e} o g = on-go Y e o .1 (go-mod _ _ d Y e .1 g)
 
 -- the lines of the run are those of its cells
-pub line-inside : {run : Run} (k e : ℕ) → Valid run → k * run .window + e < cellsOf run → run .first + k ≤ run .last
+pub line-inside : {run : Run} (k e : ℕ) → ValidRun run → k * run .window + e < cellsOf run → run .first + k ≤ run .last
 unfolding cellsOf linesOf
 line-inside {run} k e v h =
     ⊎-elim (λ past. absurd (let few : suc (run .last) - run .first ≤ k = omega (arith, v .ordered) in omega (arith, mul-le-mul-right (run .window) few))) (λ in′. in′) (split (run .last) (run .first + k))
 
-pub inside-cells : {run : Run} (k : ℕ) {e : ℕ} → Valid run → e < run .window → run .first + k ≤ run .last → k * run .window + e < cellsOf run
+pub inside-cells : {run : Run} (k : ℕ) {e : ℕ} → ValidRun run → e < run .window → run .first + k ≤ run .last → k * run .window + e < cellsOf run
 unfolding cellsOf linesOf
 inside-cells {run} k v h l = let more : suc k ≤ suc (run .last) - run .first = omega arith in omega (arith, mul-le-mul-right (run .window) more)
 
 -- the cells of whole lines
-pub lines-cells : {run : Run} {j : ℕ} → Valid run → j ≤ run .last + 1 → (j - run .first) * run .window ≤ cellsOf run
+pub lines-cells : {run : Run} {j : ℕ} → ValidRun run → j ≤ run .last + 1 → (j - run .first) * run .window ≤ cellsOf run
 unfolding cellsOf linesOf
 lines-cells {run} {j} v l = let few : j - run .first ≤ suc (run .last) - run .first = omega arith in omega (arith, mul-le-mul-right (run .window) few)
 
 -- ---- the first hit from a cell on
 
-module _ {run : Run} (v : Valid run) (source : Source) where
+module _ {run : Run} (v : ValidRun run) (source : Source) where
   -- a cell is missed if it is no point, as the cell of a line and a distance
   pub missed : (z : ℕ) → ((k e : ℕ) → e < run .window → k * run .window + e ≡ z → Points run source e (run .first + k) → ⊥) → isHit run source z ≡ false
   missed z f =
@@ -181,14 +181,14 @@ begin run source = firstTwo (source .period) (run .interval % source .period)
 pub begin-divides : (run : Run) {source : Source} → ValidSource source → Successive (source .period) (run .interval % source .period) (begin run source .before) (begin run source .last)
 begin-divides run s = first-two (mod-lt (run .interval) (s .ticks))
 
-pub begin-seeking : {run : Run} {source : Source} {d j : ℕ} → Valid run → ValidSource source → d < source .period → Seeking (begin run source .before) (begin run source .last) (record { distance = d; line = j }) (run .window) (run .last)
+pub begin-seeking : {run : Run} {source : Source} {d j : ℕ} → ValidRun run → ValidSource source → d < source .period → Seeking (begin run source .before) (begin run source .last) (record { distance = d; line = j }) (run .window) (run .last)
 begin-seeking {run} {source} v s low = record {
   division = record { p = _; r = _; is = begin-divides run s; fits = s .fits };
   below = rw (size-of (start-left (source .period))) (omega arith);
   short = v .ends;
 }
 
-module _ {run : Run} (v : Valid run) {source : Source} (s : ValidSource source) {line d : ℕ} (begun : run .first ≤ line) (is : d ≡ (run .interval * line + origin run source) % source .period) where
+module _ {run : Run} (v : ValidRun run) {source : Source} (s : ValidSource source) {line d : ℕ} (begun : run .first ≤ line) (is : d ≡ (run .interval * line + origin run source) % source .period) where
   pub distance-low : d < source .period
   distance-low = rw is (mod-lt (run .interval * line + origin run source) (s .ticks))
 
@@ -204,7 +204,7 @@ module _ {run : Run} (v : Valid run) {source : Source} (s : ValidSource source) 
 
 -- ---- the rest of a cell's line
 
-module _ {run : Run} (v : Valid run) {x : ℕ} (inside : x < cellsOf run) where
+module _ {run : Run} (v : ValidRun run) {x : ℕ} (inside : x < cellsOf run) where
   pub own-line : run .first + x / run .window ≤ run .last
   own-line = line-inside (x / run .window) (x % run .window) v (omega (arith, div-add-mod' x (run .window)))
 

@@ -14,12 +14,12 @@ use Rattle.lattice.proofs.Stage.{Side, left, right, Stage, ended, bounds}
 use Rattle.lattice.proofs.First.{first-here, first-after}
 use Rattle.lattice.proofs.Transitions.{last-never, jump-right, jump-left, turn-right, turn-left, moved}
 use Rattle.vectors.specs.declared.Vector.{Vector}
-use Rattle.vectors.specs.Sequence.{nextOf, Successive, Reaches}
+use Rattle.vectors.specs.InnerSequence.{nextOf, Successive, Reaches}
 use Rattle.vectors.proofs.Sequence.{onward, staged, side-left, side-right, held-before, held-last}
 use Rattle.hits.specs.declared.search.Point.{Point}
 use Rattle.hits.specs.declared.search.Found.{Found}
 use Rattle.hits.specs.declared.search.Found.the-variants.{At, Nothing}
-use Rattle.hits.specs.Search.{Division, Approaching, Nearer, Seeking, Sought}
+use Rattle.hits.specs.InnerSearch.{Division, Approaching, Nearer, Seeking, Sought}
 
 -- ---- the next vector
 

@@ -6,5 +6,5 @@ pub mod Walks
 pub mod Plans
 pub mod Kept
 pub mod Lines
-pub mod Theorems
+pub mod Unique
 pub mod Proposition

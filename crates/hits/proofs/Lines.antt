@@ -17,20 +17,20 @@ use Rattle.signed.proofs.Parts.{parts, sum, apart, neg-up, neg-dn, ltZ-true, lt
 use Rattle.lattice.proofs.Row.{leftmost-next}
 use Rattle.scope.specs.declared.Run.{Run}
 use Rattle.scope.specs.declared.Source.{Source}
-use Rattle.scope.specs.Run.{Valid, ValidSource, cellsOf, lineOf, offsetOf}
+use Rattle.scope.specs.Run.{ValidRun, ValidSource, cellsOf, lineOf, offsetOf}
 use Rattle.scope.specs.Hit.{isHit}
-use Rattle.hits.specs.declared.walk.Place.{Place}
+use Rattle.hits.specs.declared.walk.LineHit.{LineHit}
 use Rattle.hits.specs.declared.walk.Walk.{Walk}
 use Rattle.hits.specs.declared.Listing.the-variants.{Done, More}
-use Rattle.hits.specs.List.{ListsFrom}
-use Rattle.hits.specs.Walk.{Leads, Stands, Walking, NextLine}
+use Rattle.hits.specs.InnerList.{ListsFrom}
+use Rattle.hits.specs.InnerWalk.{Leads, Stands, Walking, NextLine}
 use Rattle.hits.proofs.Cells.{Points, rows-le, point-hit, hit-point, missed, own-line, inside-cells}
 use Rattle.hits.proofs.Walks.{shifted-le, shifted-lt, apart-by, fits-at}
 use Rattle.hits.proofs.Kept.{Kept, kept-over, kept-end, kept-write, kept-more, kept-done}
 
 -- what stays
 pub record Fixed (run : Run) (source : Source) (all period end : ℕ) (walk : Walk) : Type 0 where
-  pub valid : Valid run
+  pub valid : ValidRun run
   pub source-valid : ValidSource source
   pub all-is : all ≡ cellsOf run
   pub period-is : period ≡ source .period
@@ -38,19 +38,19 @@ pub record Fixed (run : Run) (source : Source) (all period end : ℕ) (walk : Wa
   pub leads : Leads run source walk
 
 -- a hit cell, its offset, and the first hit of its line
-pub record Running (run : Run) (source : Source) (at : Place) (cell offset : ℕ) : Type 0 where
+pub record Running (run : Run) (source : Source) (at : LineHit) (cell offset : ℕ) : Type 0 where
   pub stands : Stands run source at
   pub line : at .cell .0 / run .window ≡ cell / run .window
   pub hit : isHit run source cell ≡ true
   pub offset-is : toZ w64 offset ≡ offsetOf run cell
 
 -- at the head of a line: the next hit, or none
-pub record Head (run : Run) (source : Source) (start : ℕ) (before room : List ℕ) (n cell offset : ℕ) (at : Place) : Type 0 where
+pub record Head (run : Run) (source : Source) (start : ℕ) (before room : List ℕ) (n cell offset : ℕ) (at : LineHit) : Type 0 where
   pub kept : Kept run source start before room n cell
   pub running : cell < cellsOf run → Running run source at cell offset
 
 -- within the line of `at`, at distance e from the left edge, which may be past the line's end
-pub record Inside (run : Run) (source : Source) (start : ℕ) (before room : List ℕ) (n cell offset : ℕ) (at : Place) : Type 0 where
+pub record Inside (run : Run) (source : Source) (start : ℕ) (before room : List ℕ) (n cell offset : ℕ) (at : LineHit) : Type 0 where
   pub stands : Stands run source at
   pub below : at .cell .0 < cellsOf run
   pub e : ℕ
@@ -62,7 +62,7 @@ pub record Inside (run : Run) (source : Source) (start : ℕ) (before room : Lis
 
 module _ {run : Run} {source : Source} {start all period end : ℕ} {walk : Walk} (fixed : Fixed run source all period end walk) {before : List ℕ} where
   -- into a line
-  pub enter : {room : List ℕ} {n cell offset : ℕ} {at : Place} → cell < all → Head run source start before room n cell offset at → Inside run source start before room n cell offset at
+  pub enter : {room : List ℕ} {n cell offset : ℕ} {at : LineHit} → cell < all → Head run source start before room n cell offset at → Inside run source start before room n cell offset at
   unfolding offsetOf
   enter {room} {n} {cell} {offset} {at} in′ h =
       let v = fixed .valid in
@@ -88,7 +88,7 @@ module _ {run : Run} {source : Source} {start all period end : ℕ} {walk : Walk
 
   -- ---- within the line
 
-  module _ {room : List ℕ} {n cell offset : ℕ} {at : Place} (i : Inside run source start before room n cell offset at) where
+  module _ {room : List ℕ} {n cell offset : ℕ} {at : LineHit} (i : Inside run source start before room n cell offset at) where
     by-distance : toZ w64 offset +ℤ pos (run .window / 2) ≡ pos (i .e)
     by-distance = rw (i .offset-is) (apart-by (i .e) (run .window / 2))
 
@@ -166,7 +166,7 @@ module _ {run : Run} {source : Source} {start all period end : ℕ} {walk : Walk
           }
 
     -- from the line's end to the next line
-    pub leave : {to : Place} → run .window ≤ i .e → NextLine run source at to → Head run source start before room n (to .cell .0) (ofZ w64 (to .offset)) to
+    pub leave : {to : LineHit} → run .window ≤ i .e → NextLine run source at to → Head run source start before room n (to .cell .0) (ofZ w64 (to .offset)) to
     unfolding offsetOf lineOf
     leave {to} out nl =
         let v = fixed .valid in
@@ -196,7 +196,7 @@ pub record Ended (run : Run) (source : Source) (start : ℕ) (before room : List
   pub full : next < cellsOf run → n ≡ length room
   pub hit : next < cellsOf run → isHit run source next ≡ true
 
-module _ {run : Run} {source : Source} {start all period end : ℕ} {walk : Walk} (fixed : Fixed run source all period end walk) {before room : List ℕ} {n cell offset : ℕ} {at : Place} where
+module _ {run : Run} {source : Source} {start all period end : ℕ} {walk : Walk} (fixed : Fixed run source all period end walk) {before room : List ℕ} {n cell offset : ℕ} {at : LineHit} where
   -- the walk went past the last cell
   pub ran-out : Head run source start before room n cell offset at → all ≤ cell → Ended run source start before room n all
   ran-out h out =
@@ -215,7 +215,7 @@ module _ {run : Run} {source : Source} {start : ℕ} {before room : List ℕ} {n
   says-done h = kept-done h (ended .kept)
 
 -- the walk gets on: from a hit of a line to one of a later line
-pub gets-on : {run : Run} {source : Source} {at to : Place} {cell offset : ℕ} → Valid run → Running run source at cell offset → NextLine run source at to → cell < to .cell .0
+pub gets-on : {run : Run} {source : Source} {at to : LineHit} {cell offset : ℕ} → ValidRun run → Running run source at cell offset → NextLine run source at to → cell < to .cell .0
 unfolding lineOf
 gets-on {run} {source} {at} {to} {cell} v r nl =
     let some = v .narrow in

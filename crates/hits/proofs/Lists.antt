@@ -4,7 +4,7 @@ use mathlib.Core.Path.{_≡_}
 use mathlib.Core.Option.{some, none}
 use Rattle.scope.specs.declared.Run.{Run}
 use Rattle.scope.specs.declared.Source.{Source}
-use Rattle.scope.specs.Run.{Valid, ValidSource, cellsOf}
+use Rattle.scope.specs.Run.{ValidRun, ValidSource, cellsOf}
 use Rattle.scope.specs.Hit.{hitsFrom}
 use Rattle.scope.proofs.Hits.{hits-end, hits-at, hits-over}
 use Rattle.scope.specs.declared.RunCell.{RunCell}
@@ -12,11 +12,11 @@ use Rattle.scope.proofs.Judged.{Passes}
 use Rattle.scope.proofs.Limits.{passes-first, passes-then, passes-when, valid-run, valid-source}
 use borrow.Author.Tests.{leb-false}
 use Rattle.hits.specs.Promise.{first, firstHitTests}
-use Rattle.hits.specs.Search.{FirstFrom}
+use Rattle.hits.specs.InnerSearch.{FirstFrom}
 
 -- what a call that no test stops may go by
 pub record Allowed (run : Run) (source : Source) (start : RunCell) : Type 0 where
-  pub valid : Valid run
+  pub valid : ValidRun run
   pub source-valid : ValidSource source
   pub inside : start .0 < cellsOf run
 

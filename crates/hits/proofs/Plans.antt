@@ -16,17 +16,17 @@ use Rattle.vectors.specs.Promise.{Askable}
 use Rattle.vectors.proofs.Bridge.{magnitudes}
 use Rattle.scope.specs.declared.Run.{Run}
 use Rattle.scope.specs.declared.Source.{Source}
-use Rattle.scope.specs.Run.{Valid, ValidSource, lineOf, offsetOf}
+use Rattle.scope.specs.Run.{ValidRun, ValidSource, lineOf, offsetOf}
 use Rattle.scope.specs.Hit.{isHit}
 use Rattle.scope.proofs.Numbering.{line-at, distance-at}
 use Rattle.hits.specs.declared.walk.Walk.{Walk}
-use Rattle.hits.specs.Walk.{Short, GoesBy, Leads, Stands, Begins, width}
+use Rattle.hits.specs.InnerWalk.{Short, GoesBy, Leads, Stands, Begins, width}
 use Rattle.hits.proofs.Cells.{hit-point, point-hit}
 use Rattle.hits.proofs.Walks.{first-point}
 
 -- ---- the place of the first hit of a line
 
-module _ {run : Run} (v : Valid run) {source : Source} (s : ValidSource source) (cell : ℕ) where
+module _ {run : Run} (v : ValidRun run) {source : Source} (s : ValidSource source) (cell : ℕ) where
   -- the cell of the line's first hit
   abbrev pub leading : ℕ
   leading = cell % run .window % source .period
@@ -59,7 +59,7 @@ module _ {run : Run} (v : Valid run) {source : Source} (s : ValidSource source) 
 -- ---- the vectors
 
 -- a window as wide as the run's or as the period
-pub askable : {run : Run} {source : Source} → Valid run → ValidSource source → Askable (source .period) (run .interval % source .period) (width run source)
+pub askable : {run : Run} {source : Source} → ValidRun run → ValidSource source → Askable (source .period) (run .interval % source .period) (width run source)
 askable {run} {source} v s = record {
   remainder = mod-lt (run .interval) (s .ticks);
   some = omega (arith, v .narrow, s .ticks);
@@ -89,7 +89,7 @@ pair-few {p} {r} {W} {A} {β} {C} {δ} h =
     let a = h .basis .area in
     (omega (arith, mul-le-mul-right β (e .right-some)), omega (arith, mul-le-mul-right δ (e .left-some)))
 
-module _ {run : Run} (v : Valid run) {source : Source} (s : ValidSource source) {left right : Vector} (h : IsPair (source .period) (run .interval % source .period) (width run source) left right) where
+module _ {run : Run} (v : ValidRun run) {source : Source} (s : ValidSource source) {left right : Vector} (h : IsPair (source .period) (run .interval % source .period) (width run source) left right) where
   pub left-small : Short left (run .window)
   left-small =
       let m = magnitudes h in
@@ -151,7 +151,7 @@ module _ {run : Run} (v : Valid run) {source : Source} (s : ValidSource source) 
         goes-both = λ d in′ l b. (omega (arith, m .pair .wide), next-both (m .pair) l (omega arith) (omega (arith, m .pair .wide)));
       }
 
-module _ {run : Run} (v : Valid run) {source : Source} (s : ValidSource source) {only : Vector} (h : IsSingle (source .period) (run .interval % source .period) (width run source) only) where
+module _ {run : Run} (v : ValidRun run) {source : Source} (s : ValidSource source) {only : Vector} (h : IsSingle (source .period) (run .interval % source .period) (width run source) only) where
   -- p/g lines lead on, to the same place
   onward : (d : ℕ) → d < width run source → Next (source .period) (run .interval % source .period) (width run source) d (only .line) d
   onward d l = next-single (s .ticks) (h .is-gcd) (rw (h .rises) (mul-div-cancel' (h .g) (h .is-gcd .divides-right))) (h .wide) l

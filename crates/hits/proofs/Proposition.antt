@@ -15,14 +15,14 @@ use Rattle.vectors.specs.Vectors.{IsPair, IsSingle}
 use Rattle.vectors.proofs.Bridge.{magnitudes, nonneg}
 use Rattle.scope.specs.declared.Run.{Run}
 use Rattle.scope.specs.declared.Source.{Source}
-use Rattle.scope.specs.Run.{Valid, ValidSource}
+use Rattle.scope.specs.Run.{ValidRun, ValidSource}
 use Rattle.scope.specs.Hit.{Hits}
 use Rattle.scope.proofs.Limits.{halves}
 use Rattle.scope.proofs.Hits.{hits-on}
 use Rattle.hits.specs.Proposition.{InWindow, NextHit, Cases}
 use Rattle.hits.proofs.Cells.{Points, on-points, way, arrive}
 
-module _ {run : Run} (v : Valid run) (source : Source) where
+module _ {run : Run} (v : ValidRun run) (source : Source) where
   -- an offset of the window, by its distance from the left edge
   record Far (i : ℤ) : Type 0 where
     d : ℕ
@@ -86,7 +86,7 @@ moved-both i y z h A C d is α γ l =
     omega (arith, parts, sum i (pos h), sum i y, sum (i +ℤ y) z, sum ((i +ℤ y) +ℤ z) (pos h), neg-up (pos A), neg-dn (pos A))
 
 -- "002's proposition 2 gives the next hit after (i, j)", where a pair exists.
-pub proposition-two : {run : Run} {source : Source} {left right : Vector} {i : ℤ} {j : ℕ} → Valid run → IsPair (source .period) (run .interval % source .period) (run .window) left right → InWindow run i → Hits run source i j → Cases run source left right i j
+pub proposition-two : {run : Run} {source : Source} {left right : Vector} {i : ℤ} {j : ℕ} → ValidRun run → IsPair (source .period) (run .interval % source .period) (run .window) left right → InWindow run i → Hits run source i j → Cases run source left right i j
 proposition-two {run} {source} {left} {right} {i} {j} v pair w h =
     let m = magnitudes pair in
     let f = far v source w in
@@ -110,7 +110,7 @@ proposition-two {run} {source} {left} {right} {i} {j} v pair w h =
     }
 
 -- "A single vector leads from each hit to the next."
-pub single-next : {run : Run} {source : Source} {only : Vector} {i : ℤ} {j : ℕ} → Valid run → ValidSource source → IsSingle (source .period) (run .interval % source .period) (run .window) only → InWindow run i → Hits run source i j → NextHit run source j i (j + only .line)
+pub single-next : {run : Run} {source : Source} {only : Vector} {i : ℤ} {j : ℕ} → ValidRun run → ValidSource source → IsSingle (source .period) (run .interval % source .period) (run .window) only → InWindow run i → Hits run source i j → NextHit run source j i (j + only .line)
 single-next {source = source} {only} {i} v s one w h =
     let f = far v source w in
     let whole : one .g * only .line ≡ source .period = rw (one .rises) (mul-div-cancel' (one .g) (one .is-gcd .divides-right)) in

@@ -18,14 +18,14 @@ use Rattle.lattice.proofs.Congruence.{cong-mod, cong-sym, cong-trans, cong-belo
 use Rattle.lattice.proofs.First.{Next}
 use Rattle.scope.specs.declared.Run.{Run}
 use Rattle.scope.specs.declared.Source.{Source}
-use Rattle.scope.specs.Run.{Valid, ValidSource, lineOf, offsetOf}
+use Rattle.scope.specs.Run.{ValidRun, ValidSource, lineOf, offsetOf}
 use Rattle.scope.specs.Hit.{isHit}
 use Rattle.scope.proofs.Limits.{cells-few}
 use Rattle.scope.proofs.Numbering.{line-at, distance-at}
 use Rattle.hits.specs.declared.walk.Step.{Step}
-use Rattle.hits.specs.declared.walk.Place.{Place}
+use Rattle.hits.specs.declared.walk.LineHit.{LineHit}
 use Rattle.hits.specs.declared.walk.Walk.{Walk}
-use Rattle.hits.specs.Walk.{Movable, Moved, Leads, Stands, Walking, NextLine, width}
+use Rattle.hits.specs.InnerWalk.{Movable, Moved, Leads, Stands, Walking, NextLine, width}
 use Rattle.hits.proofs.Cells.{Points, rows-le, hit-point, miss-point, point-hit, way, arrive}
 
 -- the first point of a line, from any of its points
@@ -34,7 +34,7 @@ first-point run source {d} o = record { cong = cong-trans (cong-mod (source .per
 
 -- ---- where a step leads
 
-module _ {run : Run} (v : Valid run) {source : Source} (s : ValidSource source) {at : Place} (to : Place) (here : Stands run source at) {Y e : ℕ} (next : Next (source .period) (run .interval % source .period) (width run source) (at .cell .0 % run .window) Y e) (is : to .cell .0 ≡ (at .cell .0 / run .window + Y) * run .window + e) where
+module _ {run : Run} (v : ValidRun run) {source : Source} (s : ValidSource source) {at : LineHit} (to : LineHit) (here : Stands run source at) {Y e : ℕ} (next : Next (source .period) (run .interval % source .period) (width run source) (at .cell .0 % run .window) Y e) (is : to .cell .0 ≡ (at .cell .0 / run .window + Y) * run .window + e) where
   inside : e < run .window
   inside = omega (arith, next .inside)
 
@@ -148,7 +148,7 @@ pub wider : (z : ℤ) → (negℤ (pos 4096) ≤ℤ z) × (z ≤ℤ pos 4096) �
 wider z h = (omega (arith, parts, h .0, neg-dn (pos 4096), neg-up (pos 4096), neg-dn (pos 8192), neg-up (pos 8192)), omega (arith, parts, h .1))
 
 -- the numbers of a walk and of the place where it stands
-pub record Near (walk : Walk) (at : Place) : Type 0 where
+pub record Near (walk : Walk) (at : LineHit) : Type 0 where
   pub offset : (negℤ (pos 4096) ≤ℤ at .offset) × (at .offset ≤ℤ pos 4096)
   pub low : (negℤ (pos 4096) ≤ℤ walk .low) × (walk .low ≤ℤ pos 4096)
   pub high : (negℤ (pos 4096) ≤ℤ walk .high) × (walk .high ≤ℤ pos 4096)
@@ -159,7 +159,7 @@ pub record Near (walk : Walk) (at : Place) : Type 0 where
   pub right-cells : walk .right .cells ≤ 8796093022208
   pub both-cells : walk .both .cells ≤ 2 ^ 44
 
-pub small : {run : Run} {source : Source} {walk : Walk} {at : Place} → Valid run → ValidSource source → Leads run source walk → Stands run source at → Near walk at
+pub small : {run : Run} {source : Source} {walk : Walk} {at : LineHit} → ValidRun run → ValidSource source → Leads run source walk → Stands run source at → Near walk at
 unfolding offsetOf
 small {run} {source} {walk} {at} v s l here =
     let w = v .wide in
@@ -185,7 +185,7 @@ small {run} {source} {walk} {at} v s l here =
 
 -- ---- the three cases
 
-module _ {walk : Walk} {at : Place} (w : Walking walk at) where
+module _ {walk : Walk} {at : LineHit} (w : Walking walk at) where
   sizes : Near walk at
   sizes = small (w .valid) (w .source-valid) (w .leads) (w .stands)
 
@@ -206,10 +206,10 @@ module _ {walk : Walk} {at : Place} (w : Walking walk at) where
   movable-both = movable (walk .both) (sizes .both) (sizes .both-cells)
 
   -- no step leads far
-  pub lands-low : {step : Step} {to : Place} → Movable at step → Moved at step to → to .cell .0 < 2 ^ 46
+  pub lands-low : {step : Step} {to : LineHit} → Movable at step → Moved at step to → to .cell .0 < 2 ^ 46
   lands-low h m = omega (arith, m .cell, h .cell, h .cells)
 
-module _ {run : Run} (v : Valid run) {source : Source} (s : ValidSource source) {walk : Walk} (l : Leads run source walk) {at : Place} (here : Stands run source at) where
+module _ {run : Run} (v : ValidRun run) {source : Source} (s : ValidSource source) {walk : Walk} (l : Leads run source walk) {at : LineHit} (here : Stands run source at) where
   -- the distance at which the walk stands, by its offset
   distance-in : at .cell .0 % run .window < width run source
   distance-in = let some = v .narrow in let d = mod-lt (at .cell .0) {m = run .window} (omega arith) in omega (arith, here .leftmost)
@@ -240,7 +240,7 @@ module _ {run : Run} (v : Valid run) {source : Source} (s : ValidSource source) 
   high-false : ltZ (toZ w64 (ofZ w64 (at .offset))) (toZ w64 (ofZ w64 (walk .high))) ≡ false → l .below ≤ at .cell .0 % run .window
   high-false t = let n = small v s l here in shifted-le (walk .high) (at .offset) (run .window / 2) high-is by-distance (ltZ-false (at .offset) (walk .high) (rw (held (at .offset) (n .offset), held (walk .high) (n .high)) at t))
 
-  pub step-left : {to : Place} → leZ (toZ w64 (ofZ w64 (walk .low))) (toZ w64 (ofZ w64 (at .offset))) ≡ true → Moved at (walk .left) to → NextLine run source at to
+  pub step-left : {to : LineHit} → leZ (toZ w64 (ofZ w64 (walk .low))) (toZ w64 (ofZ w64 (at .offset))) ≡ true → Moved at (walk .left) to → NextLine run source at to
   step-left {to} t m =
       let g = l .goes-left (at .cell .0 % run .window) distance-in (low-true t) in
       let a = g .0 in
@@ -248,14 +248,14 @@ module _ {run : Run} (v : Valid run) {source : Source} (s : ValidSource source) 
       (omega (arith, m .cell, l .left-cells, div-add-mod' (at .cell .0) (run .window)))
       (left-of (at .offset) (to .offset) (run .window / 2) (l .A) by-distance (rw (l .left-offset) at (m .offset)) a)
 
-  pub step-right : {to : Place} → leZ (toZ w64 (ofZ w64 (walk .low))) (toZ w64 (ofZ w64 (at .offset))) ≡ false → ltZ (toZ w64 (ofZ w64 (at .offset))) (toZ w64 (ofZ w64 (walk .high))) ≡ true → Moved at (walk .right) to → NextLine run source at to
+  pub step-right : {to : LineHit} → leZ (toZ w64 (ofZ w64 (walk .low))) (toZ w64 (ofZ w64 (at .offset))) ≡ false → ltZ (toZ w64 (ofZ w64 (at .offset))) (toZ w64 (ofZ w64 (walk .high))) ≡ true → Moved at (walk .right) to → NextLine run source at to
   step-right {to} t u m =
       let g = l .goes-right (at .cell .0 % run .window) distance-in (low-false t) (high-true u) in
       landed v s to here g
       (omega (arith, m .cell, l .right-cells, div-add-mod' (at .cell .0) (run .window)))
       (right-of (at .offset) (to .offset) (run .window / 2) (l .C) by-distance (rw (l .right-offset) at (m .offset)))
 
-  pub step-both : {to : Place} → leZ (toZ w64 (ofZ w64 (walk .low))) (toZ w64 (ofZ w64 (at .offset))) ≡ false → ltZ (toZ w64 (ofZ w64 (at .offset))) (toZ w64 (ofZ w64 (walk .high))) ≡ false → Moved at (walk .both) to → NextLine run source at to
+  pub step-both : {to : LineHit} → leZ (toZ w64 (ofZ w64 (walk .low))) (toZ w64 (ofZ w64 (at .offset))) ≡ false → ltZ (toZ w64 (ofZ w64 (at .offset))) (toZ w64 (ofZ w64 (walk .high))) ≡ false → Moved at (walk .both) to → NextLine run source at to
   step-both {to} t u m =
       let g = l .goes-both (at .cell .0 % run .window) distance-in (low-false t) (high-false u) in
       let a = g .0 in

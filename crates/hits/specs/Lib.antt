@@ -1,5 +1,5 @@
 pub mod Promise
 pub mod Proposition
-pub mod Search
-pub mod Walk
-pub mod List
+pub mod InnerSearch
+pub mod InnerWalk
+pub mod InnerList

@@ -6,7 +6,7 @@ use scope::Source;
 use scope::Verdict;
 ghost use mathlib.Core.Path.{_≡_};
 ghost use Rattle.scope.specs.Refusal.{complaint};
-ghost use Rattle.scope.specs.Reply.{verdict};
+ghost use Rattle.scope.specs.InnerVerdict.{verdict};
 ghost use Rattle.hits.specs.Promise.{firstHitTests, FirstHitPromise, ListingPromise};
 
 pub mod list;

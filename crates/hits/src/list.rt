@@ -6,14 +6,14 @@ use scope::Run;
 use scope::RunCell;
 use scope::Source;
 ghost use Prim.Native.Nat.{_<_};
-ghost use Rattle.scope.specs.Run.{Valid, ValidSource, cellsOf};
-ghost use Rattle.hits.specs.List.{ListsFrom};
+ghost use Rattle.scope.specs.Run.{ValidRun, ValidSource, cellsOf};
+ghost use Rattle.hits.specs.InnerList.{ListsFrom};
 
 // Inner step. The hits from `start` on, written until there are no more or the room is full: line by line, and on a line at
 // offsets that lie a period apart. `at` is the first hit of the line and `to` that of the next line that has one, worked out
 // before the line is written, so that the processor has it by then; `cell` and `offset` are those of the hit that is next.
 pub fn write_hits(run: Run, source: Source, start: RunCell, room: &mut [u64]) -> Listing
-    requires { ⌜ Valid run × ValidSource source × start .0 < cellsOf run ⌝ }
+    requires { ⌜ ValidRun run × ValidSource source × start .0 < cellsOf run ⌝ }
     ensures { λ r. ⌜ ListsFrom run source (start .0) (now (room .entry)) r (now (room .exit)) ⌝ }
 {
     let all = scope::cells(run);
@@ -24,7 +24,7 @@ pub fn write_hits(run: Run, source: Source, start: RunCell, room: &mut [u64]) ->
     let first = search::find_hit(run, source, start);
     let mut cell = first.0;
     let mut offset = walk::offset_at(cell % window as u64, window);
-    let mut at = walk::place_of(run, source, first);
+    let mut at = walk::line_hit_of(run, source, first);
     let mut next = all;
     let mut n: usize = 0;
     'lines: while cell < all {

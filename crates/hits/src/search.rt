@@ -10,10 +10,10 @@ use vectors::next;
 ghost use mathlib.Core.Path.{_≡_};
 ghost use Prim.Native.Nat.{ℕ, _+_, _-_, _*_, _%_, _≤_, _<_, max};
 ghost use Rattle.lattice.proofs.Multiples.{Above};
-ghost use Rattle.scope.specs.Run.{Valid, ValidSource, cellsOf};
+ghost use Rattle.scope.specs.Run.{ValidRun, ValidSource, cellsOf};
 ghost use Rattle.scope.proofs.Hits.{origin};
-ghost use Rattle.vectors.specs.Sequence.{Successive};
-ghost use Rattle.hits.specs.Search.{Approaching, Nearer, Seeking, Sought, FirstFrom};
+ghost use Rattle.vectors.specs.InnerSequence.{Successive};
+ghost use Rattle.hits.specs.InnerSearch.{Approaching, Nearer, Seeking, Sought, FirstFrom};
 
 // A point of a source: its distance from the window's left edge, to the right, and its line.
 pub struct Point {
@@ -98,7 +98,7 @@ fn seek(first: Vector, second: Vector, start: Point, window: u64, end: u64) -> F
 // Inner step. How far right of the window's left edge the source's first point on a line is; it may lie past the window.
 // Every other step goes from one point of the source to another, so that where its points lie is said here alone.
 pub fn distance(run: Run, source: Source, line: u64) -> u64
-    requires { ⌜ Valid run × ValidSource source × (line ≤ 16777217) ⌝ }
+    requires { ⌜ ValidRun run × ValidSource source × (line ≤ 16777217) ⌝ }
     ensures { λ r. ⌜ r ≡ (run .interval * line + origin run source) % source .period ⌝ }
 {
     (run.interval as u64 * line + run.window as u64 / 2) % source.period as u64
@@ -106,7 +106,7 @@ pub fn distance(run: Run, source: Source, line: u64) -> u64
 
 // The first hit on this line or a later one, or the number of cells if there is none.
 fn find_from_line(run: Run, source: Source, line: u64) -> RunCell
-    requires { ⌜ Valid run × ValidSource source × (run .first ≤ line) × (line ≤ run .last + 1) ⌝ }
+    requires { ⌜ ValidRun run × ValidSource source × (run .first ≤ line) × (line ≤ run .last + 1) ⌝ }
     ensures { λ r. ⌜ FirstFrom run source ((line - run .first) * run .window) (r .0) ⌝ }
 {
     let window = run.window as u64;
@@ -124,7 +124,7 @@ fn find_from_line(run: Run, source: Source, line: u64) -> RunCell
 // Inner step. The first hit not below `start`, or the number of cells if there is none: on the rest of its own line the
 // point at or right of it is a remainder away, and if that lies past the window the lines after it are searched.
 pub fn find_hit(run: Run, source: Source, start: RunCell) -> RunCell
-    requires { ⌜ Valid run × ValidSource source × start .0 < cellsOf run ⌝ }
+    requires { ⌜ ValidRun run × ValidSource source × start .0 < cellsOf run ⌝ }
     ensures { λ r. ⌜ FirstFrom run source (start .0) (r .0) ⌝ }
 {
     let window = run.window as u64;

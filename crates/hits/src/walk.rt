@@ -8,8 +8,8 @@ use vectors::Vector;
 ghost use mathlib.Core.Path.{_≡_};
 ghost use Prim.Native.Nat.{_+_, _*_, _/_, _≤_, _<_, _^_, min};
 ghost use lib.IntN.{pos, _+ℤ_, _-ℤ_};
-ghost use Rattle.scope.specs.Run.{Valid, ValidSource, cellsOf};
-ghost use Rattle.hits.specs.Walk.{Short, Joinable, GoesBy, Begins, Leads, Movable, Moved, Walking, Walks};
+ghost use Rattle.scope.specs.Run.{ValidRun, ValidSource, cellsOf};
+ghost use Rattle.hits.specs.InnerWalk.{Short, Joinable, GoesBy, Begins, Leads, Movable, Moved, Walking, Walks};
 
 // A step of the walk: so many ticks of offset, so many cells on.
 pub struct Step {
@@ -18,7 +18,7 @@ pub struct Step {
 }
 
 // Where the walk stands: the first hit of a line.
-pub struct Place {
+pub struct LineHit {
     pub offset: i64,
     pub cell: RunCell,
 }
@@ -95,7 +95,7 @@ fn narrower(a: u32, b: u32) -> u32
 // a period from the left edge, so that the vectors are those of a window as wide as the period. A single vector stands
 // for both: its offset is 0, so that the step to the left always stays in the window.
 pub fn plan(run: Run, source: Source) -> Walk
-    requires { ⌜ Valid run × ValidSource source ⌝ }
+    requires { ⌜ ValidRun run × ValidSource source ⌝ }
     ensures { λ r. ⌜ Leads run source r ⌝ }
 {
     let window = run.window;
@@ -109,25 +109,25 @@ pub fn plan(run: Run, source: Source) -> Walk
 
 // Inner step. The place whole periods left of a cell, as far left as its line goes: of a hit cell, that of the first hit of its
 // line. The number of cells may be asked with too, where there is no hit.
-pub fn place_of(run: Run, source: Source, cell: RunCell) -> Place
-    requires { ⌜ Valid run × ValidSource source × cell .0 ≤ cellsOf run ⌝ }
+pub fn line_hit_of(run: Run, source: Source, cell: RunCell) -> LineHit
+    requires { ⌜ ValidRun run × ValidSource source × cell .0 ≤ cellsOf run ⌝ }
     ensures { λ r. ⌜ Begins run source (cell .0) r ⌝ }
 {
     let from = cell.0 % run.window as u64;
     let first = from % source.period as u64;
-    Place {
+    LineHit {
         offset: offset_at(first, run.window),
         cell: RunCell(cell.0 - from + first),
     }
 }
 
-impl Place {
+impl LineHit {
     // The place a step on.
-    fn moved(self, step: Step) -> Place
+    fn moved(self, step: Step) -> LineHit
         requires { ⌜ Movable self step ⌝ }
         ensures { λ r. ⌜ Moved self step r ⌝ }
     {
-        Place {
+        LineHit {
             offset: self.offset + step.offset,
             cell: RunCell(self.cell.0 + step.cells),
         }
@@ -136,7 +136,7 @@ impl Place {
 
 impl Walk {
     // Inner step. The first hit of the next line that has one: 002's proposition 2. Just one of its cases applies.
-    pub fn next(self, at: Place) -> Place
+    pub fn next(self, at: LineHit) -> LineHit
         requires { ⌜ Walking self at ⌝ }
         ensures { λ r. ⌜ (r .cell .0 < 2 ^ 46) × Walks self at r ⌝ }
     {

@@ -11,14 +11,14 @@ use lib.Dec.{leb}
 use lib.ListN.{length, getD}
 use borrow.Author.Tests.{lt-ltb, le-ltb, le-leb, lt-leb}
 use Rattle.scope.specs.declared.Run.{Run}
-use Rattle.scope.specs.Run.{Valid, Within, shiftOf}
+use Rattle.scope.specs.Run.{ValidRun, UpTo, shiftOf}
 use Rattle.scope.proofs.Numbering.{IsBlock}
 use Rattle.scope.proofs.Hits.{hit-shift}
 use Rattle.map.specs.Sum.{capped, raised}
 use Rattle.sources.specs.Entry.{Entry}
-pub use Rattle.sources.specs.Lists.{ValidEntry, AllValid}
+pub use Rattle.sources.specs.Lists.{ValidEntry, ValidEntries}
 pub use Rattle.sources.proofs.Entries.{entry, entries-length, entries-from, valid-entries, valid-entries-pass}
-use Rattle.map.specs.Map.{weightAt, added}
+use Rattle.map.specs.Promise.{weightAt, added}
 use Rattle.map.specs.Inner.{chosen}
 use Rattle.map.proofs.Raised.{raised-again, raised-move, raised-length, raised-getD, raised-within, capped-below}
 
@@ -37,7 +37,7 @@ pub added-getD : (c : ℕ) (run : Run) (entries : List Entry) (cells : List ℕ)
 unfolding added
 added-getD c run entries cells i h = raised-getD c (weightAt run entries) 0 cells i h ∙ ap (λ n. capped c (getD cells i 0 + weightAt run entries n)) (zero-add i)
 
-pub added-within : (c : ℕ) (run : Run) (entries : List Entry) (cells : List ℕ) → Within c (added c run entries cells)
+pub added-within : (c : ℕ) (run : Run) (entries : List Entry) (cells : List ℕ) → UpTo c (added c run entries cells)
 unfolding added
 added-within c run entries cells = raised-within c (weightAt run entries) 0 cells
 
@@ -52,11 +52,11 @@ unfolding added
 added-append c run a b cells = raised-again c (weightAt run a) (weightAt run b) 0 cells ∙ raised-move c _ _ 0 0 cells (λ i k. sym (weight-append run a b (0 + i)))
 
 -- "An empty list changes nothing."
-pub added-none : (c : ℕ) (run : Run) (cells : List ℕ) → Within c cells → added c run [] cells ≡ cells
+pub added-none : (c : ℕ) (run : Run) (cells : List ℕ) → UpTo c cells → added c run [] cells ≡ cells
 unfolding added raised weightAt
 added-none c run cells small = go 0 cells small
   where
-    go : (x : ℕ) (l : List ℕ) → Within c l → raised c (weightAt run []) x l ≡ l
+    go : (x : ℕ) (l : List ℕ) → UpTo c l → raised c (weightAt run []) x l ≡ l
     go x [] h = refl
     go x (v ∷ l) h = rw (go (suc x) l (λ i. h (suc i)), add-zero) (ap (λ n. n ∷ l) (capped-below c (h 0)))
 
@@ -83,7 +83,7 @@ chosen-high low high e rest h = rw (le-ltb _ _ h) (either (leb low (e .source .p
     either true = refl
     either false = refl
 
-pub valid-below : (c : ℕ) (entries : List Entry) → AllValid c entries → AllBelow 2147483648 entries
+pub valid-below : (c : ℕ) (entries : List Entry) → ValidEntries c entries → AllBelow 2147483648 entries
 valid-below c [] v = tt
 valid-below c (e ∷ rest) v = let own = v .0 .source .fits in (omega arith, valid-below c rest (v .1))
 
@@ -111,7 +111,7 @@ added-chosen c run middle high entries cells b =
 -- ---- blocks
 
 -- in a block's cell they weigh what they weigh in the run's
-pub weight-shift : {run block : Run} → Valid run → IsBlock run block → (entries : List Entry) (x : ℕ) → weightAt block entries x ≡ weightAt run entries (x + shiftOf run block)
+pub weight-shift : {run block : Run} → ValidRun run → IsBlock run block → (entries : List Entry) (x : ℕ) → weightAt block entries x ≡ weightAt run entries (x + shiftOf run block)
 unfolding weightAt
 weight-shift v b [] x = refl
 weight-shift v b (e ∷ rest) x = rw (hit-shift v b (e .source) x, weight-shift v b rest x)

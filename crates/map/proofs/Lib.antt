@@ -1,5 +1,5 @@
 pub mod Raised
 pub mod Entries
 pub mod Rows
-pub mod Promise
+pub mod Unique
 pub mod Walked

@@ -9,7 +9,7 @@ use mathlib.Core.List.{List, [], _∷_, _++_}
 use lib.ListN.{length, getD, take, drop, set, length-set, length-drop, List·getD-append}
 use lib.Seq.{ext-getD, getD-set-same, getD-set-other, getD-take, getD-drop, getD-append-add, length-take-le}
 use borrow.Rule.Slice.PartMut.{putMid, same-len-mid}
-use Rattle.scope.specs.Run.{Within}
+use Rattle.scope.specs.Run.{UpTo}
 use Rattle.map.specs.Sum.{capped, raised}
 
 -- a sum stopped in between
@@ -34,7 +34,7 @@ raised-getD c gain x [] i h = absurd (omega arith)
 raised-getD c gain x (v ∷ cells) zero h = rw add-zero
 raised-getD c gain x (v ∷ cells) (suc i) h = rw (add-suc, ← suc-add) (raised-getD c gain (suc x) cells i (omega arith))
 
-pub raised-within : (c : ℕ) (gain : ℕ → ℕ) (x : ℕ) (cells : List ℕ) → Within c (raised c gain x cells)
+pub raised-within : (c : ℕ) (gain : ℕ → ℕ) (x : ℕ) (cells : List ℕ) → UpTo c (raised c gain x cells)
 unfolding raised
 raised-within c gain x [] i = omega arith
 raised-within c gain x (v ∷ cells) zero = capped-le c (v + gain x)
@@ -100,7 +100,7 @@ split (suc a) (suc b) = ⊎-elim (λ h. inl (omega arith)) (λ h. inr (omega ari
 
 module _ {c : ℕ} {gain : ℕ → ℕ} {old : List ℕ} {x : ℕ} {cells : List ℕ} (so-far : RaisedBelow c gain old x cells) where
   -- cells that gain nothing are passed over
-  pub over : {y : ℕ} → Within c old → x ≤ y → ((i : ℕ) → x ≤ i → i < y → gain i ≡ 0) → RaisedBelow c gain old y cells
+  pub over : {y : ℕ} → UpTo c old → x ≤ y → ((i : ℕ) → x ≤ i → i < y → gain i ≡ 0) → RaisedBelow c gain old y cells
   over {y} small h none =
       record {
         as-long = so-far .as-long;

@@ -15,10 +15,10 @@ use Rattle.map.specs.Sum.{capped, raised}
 use Rattle.map.specs.Inner.{spaced}
 use Rattle.scope.specs.declared.Run.{Run}
 use Rattle.scope.specs.declared.Source.{Source}
-use Rattle.scope.specs.Run.{Within, lineOf}
+use Rattle.scope.specs.Run.{UpTo, lineOf}
 use Rattle.scope.specs.Hit.{isHit}
 use Rattle.scope.proofs.Hits.{origin, On, hit-on, miss-on, hit-or-miss}
-use Rattle.map.specs.Map.{weightAt}
+use Rattle.map.specs.Promise.{weightAt}
 use Rattle.map.proofs.Raised.{RaisedBelow, starts, over, store, patch}
 
 pub spaced-hit : (p s d w : ℕ) → d % p ≡ s → spaced p s w d ≡ w
@@ -42,11 +42,11 @@ between p s d i e low high f = go (decLt (d / p) (i / p))
 -- a line of which the cells below d are done, d being the next hit
 pub record Line (period start weight : ℕ) (old : List ℕ) (d : ℕ) (line : List ℕ) : Type 0 where
   pub within : start < period
-  pub small : Within 255 old
+  pub small : UpTo 255 old
   pub hit : d % period ≡ start
   pub done : RaisedBelow 255 (spaced period start weight) old d line
 
-pub line-starts : {period start : ℕ} (weight : ℕ) {old : List ℕ} → start < period → Within 255 old → Line period start weight old start old
+pub line-starts : {period start : ℕ} (weight : ℕ) {old : List ℕ} → start < period → UpTo 255 old → Line period start weight old start old
 line-starts {period} {start} weight {old} h small =
     record {
       within = h;
@@ -107,7 +107,7 @@ pub record Rows (weight : ℕ) (old : List ℕ) (window period step first : ℕ)
   pub moves : step < period
   pub base-is : base ≡ lines * window
   pub start-is : start ≡ (first + lines * step) % period
-  pub small : Within 255 old
+  pub small : UpTo 255 old
   pub done : RaisedBelow 255 (rowGain window period step first weight) old base map
 
 module _ {weight : ℕ} {old : List ℕ} {window period step first : ℕ} {map : List ℕ} {start base : ℕ} (rows : Rows weight old window period step first map start base) where
@@ -149,7 +149,7 @@ module _ {weight : ℕ} {old : List ℕ} {window period step first : ℕ} {map :
         done = patch (rows .done) (spaced period start weight) (omega arith) (omega arith) put (λ i (j : i < base + window - base). let inside : i < window = omega arith in rw (line i inside, place i inside, ← rows .start-is));
       }
 
-pub rows-start : {window period step first : ℕ} (weight : ℕ) (old : List ℕ) (all : ℕ) → length old ≡ window * all → 0 < window → window ≤ 4096 → period ≤ 2147483647 → step < period → first < period → Within 255 old → Rows weight old window period step first old first 0
+pub rows-start : {window period step first : ℕ} (weight : ℕ) (old : List ℕ) (all : ℕ) → length old ≡ window * all → 0 < window → window ≤ 4096 → period ≤ 2147483647 → step < period → first < period → UpTo 255 old → Rows weight old window period step first old first 0
 rows-start {window} {period} {step} {first} weight old all whole some narrow short moves low small =
     let none : first + 0 * step ≡ first = omega arith in
     record { lines = 0; all = all; whole = whole; some = some; narrow = narrow; short = short; moves = moves; base-is = omega arith; start-is = sym (rw none (mod-eq-of-lt low)); small = small; done = starts 255 _ old }

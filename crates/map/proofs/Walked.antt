@@ -10,17 +10,17 @@ use mathlib.Core.List.{List, [], _∷_}
 use lib.ListN.{length, getD, set}
 use Rattle.scope.specs.declared.Run.{Run}
 use Rattle.scope.specs.declared.Source.{Source}
-use Rattle.scope.specs.Run.{Valid, ValidSource, Within, linesOf, cellsOf, lineOf}
+use Rattle.scope.specs.Run.{ValidRun, ValidSource, UpTo, linesOf, cellsOf, lineOf}
 use Rattle.scope.specs.Hit.{isHit}
 use Rattle.sources.specs.Entry.{Entry}
 use Rattle.scope.proofs.Numbering.{cell-order}
 use Rattle.scope.proofs.Hits.{hit-or-miss, one-hit-on-line}
 use Rattle.hits.specs.declared.walk.Walk.{Walk}
-use Rattle.hits.specs.declared.walk.Place.{Place}
-use Rattle.hits.specs.Search.{FirstFrom}
-use Rattle.hits.specs.Walk.{Leads, Stands, Walking, NextLine, Walks, Begins}
+use Rattle.hits.specs.declared.walk.LineHit.{LineHit}
+use Rattle.hits.specs.InnerSearch.{FirstFrom}
+use Rattle.hits.specs.InnerWalk.{Leads, Stands, Walking, NextLine, Walks, Begins}
 use Rattle.map.specs.Sum.{capped}
-use Rattle.map.specs.Map.{weightAt}
+use Rattle.map.specs.Promise.{weightAt}
 use Rattle.map.proofs.Raised.{RaisedBelow, starts, over, past, store}
 
 -- the one source, as a list
@@ -42,15 +42,15 @@ whole-lines run = mul-mod-right (run .window) (linesOf run)
 
 -- what the walk starts from
 pub record Begun (run : Run) (source : Source) (walk : Walk) (old : List ℕ) : Type 0 where
-  pub valid : Valid run
+  pub valid : ValidRun run
   pub source-valid : ValidSource source
   pub wide : run .window ≤ source .period
   pub leads : Leads run source walk
   pub whole : length old ≡ cellsOf run
-  pub small : Within 255 old
+  pub small : UpTo 255 old
 
 -- where it stands: the hits before are added, and this is the next one if it lies in the run
-pub record Walked (run : Run) (source : Source) (weight : ℕ) (old map : List ℕ) (at : Place) : Type 0 where
+pub record Walked (run : Run) (source : Source) (weight : ℕ) (old map : List ℕ) (at : LineHit) : Type 0 where
   pub done : RaisedBelow 255 (weightAt run (only source weight)) old (at .cell .0) map
   pub stands : at .cell .0 < cellsOf run → Stands run source at
 
@@ -64,7 +64,7 @@ module _ {run : Run} {source : Source} {walk : Walk} {old : List ℕ} (begun : B
       go (inr k) = k
 
   -- from a hit to the next there is none
-  between : {at to : Place} → Stands run source at → NextLine run source at to → (z : ℕ) → at .cell .0 < z → z < to .cell .0 → isHit run source z ≡ false
+  between : {at to : LineHit} → Stands run source at → NextLine run source at to → (z : ℕ) → at .cell .0 < z → z < to .cell .0 → isHit run source z ≡ false
   between {at} {to} here next z low high =
       ⊎-elim
       (λ further. next .none z further high)
@@ -72,17 +72,17 @@ module _ {run : Run} {source : Source} {walk : Walk} {old : List ℕ} (begun : B
       (cell-order (begun .valid) (at .cell .0) z .0 low)
 
   -- the step from a hit to the next
-  on : {map : List ℕ} {at to : Place} → Walked run source weight old map at → at .cell .0 < length map → Walks walk at to → NextLine run source at to
+  on : {map : List ℕ} {at to : LineHit} → Walked run source weight old map at → at .cell .0 < length map → Walks walk at to → NextLine run source at to
   on so-far inside walks =
       let l = so-far .done .as-long in
       let w = begun .whole in
       walks run source (begun .valid) (begun .source-valid) (begun .leads) (so-far .stands (omega arith))
 
-  pub walk-rises : {map : List ℕ} {at to : Place} → Walked run source weight old map at → at .cell .0 < length map → Walks walk at to → at .cell .0 < to .cell .0
+  pub walk-rises : {map : List ℕ} {at to : LineHit} → Walked run source weight old map at → at .cell .0 < length map → Walks walk at to → at .cell .0 < to .cell .0
   walk-rises so-far inside walks = on so-far inside walks .rises
 
   -- a hit is added, and the walk goes on
-  pub walk-on : {map : List ℕ} {at to : Place} {cell v : ℕ} → Walked run source weight old map at → cell ≡ at .cell .0 → cell < length map → v ≡ capped 255 (getD map cell 0 + weight) → Walks walk at to → Walked run source weight old (set map cell v) to
+  pub walk-on : {map : List ℕ} {at to : LineHit} {cell v : ℕ} → Walked run source weight old map at → cell ≡ at .cell .0 → cell < length map → v ≡ capped 255 (getD map cell 0 + weight) → Walks walk at to → Walked run source weight old (set map cell v) to
   walk-on {map} {at} {to} {cell} {v} so-far same inside e walks =
       let l = so-far .done .as-long in
       let w = begun .whole in
@@ -94,14 +94,14 @@ module _ {run : Run} {source : Source} {walk : Walk} {old : List ℕ} (begun : B
         stands = λ k. next .stands;
       }
 
-  pub walking : {map : List ℕ} {at : Place} → Walked run source weight old map at → at .cell .0 < length map → Walking walk at
+  pub walking : {map : List ℕ} {at : LineHit} → Walked run source weight old map at → at .cell .0 < length map → Walking walk at
   walking so-far inside =
       let l = so-far .done .as-long in
       let w = begun .whole in
       record { run = run; source = source; valid = begun .valid; source-valid = begun .source-valid; leads = begun .leads; stands = so-far .stands (omega arith); inside = omega arith }
 
   -- the walk starts at the first hit
-  pub walk-starts : {cell : ℕ} {at : Place} → FirstFrom run source 0 cell → Begins run source cell at → Walked run source weight old old at
+  pub walk-starts : {cell : ℕ} {at : LineHit} → FirstFrom run source 0 cell → Begins run source cell at → Walked run source weight old old at
   walk-starts {cell} {at} first begins = go (decLt cell (cellsOf run))
     where
       so : RaisedBelow 255 (weightAt run (only source weight)) old cell old

@@ -7,13 +7,13 @@ use mathlib.Core.List.{List, [], _∷_}
 use lib.Dec.{ltb, leb, eqb}
 use lib.ListN.{length}
 use Rattle.scope.specs.declared.Run.{Run}
-use Rattle.scope.specs.Run.{Valid, cellsOf}
+use Rattle.scope.specs.Run.{ValidRun, cellsOf}
 use Rattle.scope.specs.Refusal.{complaint}
 use Rattle.sources.specs.Entry.{Entry, entriesOf, listTests}
 
 -- What is looked at before the first store: the run, the two lists and the map's length are in order.
 pub record Addable (run : Run) (periods weights map : List ℕ) : Type 0 where
-  pub valid : Valid run
+  pub valid : ValidRun run
   pub equal : length periods ≡ length weights
   pub sound : complaint (listTests 255 1 (entriesOf periods weights)) ≡ none
   pub whole : length map ≡ cellsOf run

@@ -1,3 +1,3 @@
 pub mod Sum
-pub mod Map
+pub mod Promise
 pub mod Inner

@@ -9,10 +9,10 @@ ghost use mathlib.Core.Path.{_≡_};
 ghost use mathlib.Core.List.{[], _∷_};
 ghost use Prim.Native.Nat.{min, _+_, _-_, _≤_, _<_, _^_};
 ghost use lib.ListN.{length};
-ghost use Rattle.scope.specs.Run.{Valid, ValidSource, IsBlock, cellsOf};
+ghost use Rattle.scope.specs.Run.{ValidRun, ValidSource, IsBlock, cellsOf};
 ghost use Rattle.sources.specs.Entry.{entriesOf};
 ghost use Rattle.map.specs.Sum.{capped, raised};
-ghost use Rattle.map.specs.Map.{added, MapPromise};
+ghost use Rattle.map.specs.Promise.{added, MapPromise};
 ghost use Rattle.map.specs.Inner.{Addable, chosen, spaced, shortestOf};
 
 // The reply of the map call.
@@ -58,7 +58,7 @@ fn add_line(line: &mut [u8], start: usize, period: usize, weight: u8)
 // Adds a source to the map of a run line by line. From a line to the next the source's first distance grows by the
 // interval: that is one sum, less a period if it comes to one or more, and no division.
 fn add_rows(run: Run, source: Source, weight: u8, map: &mut [u8])
-    requires { ⌜ Valid run × ValidSource source × (length (now map) ≡ cellsOf run) ⌝ }
+    requires { ⌜ ValidRun run × ValidSource source × (length (now map) ≡ cellsOf run) ⌝ }
     ensures { λ _. ⌜ now (map .exit) ≡ added 255 run (record { source = source; weight = weight } ∷ []) (now (map .entry)) ⌝ }
 {
     let window = run.window as usize;
@@ -79,12 +79,12 @@ fn add_rows(run: Run, source: Source, weight: u8, map: &mut [u8])
 // Adds a source with at most one hit on a line to the map of a run, hit by hit. The vectors are worked out once; from a hit
 // to the next it is then at most two comparisons, and two sums, however many lines lie between.
 fn add_hits(run: Run, source: Source, weight: u8, map: &mut [u8])
-    requires { ⌜ Valid run × ValidSource source × (run .window ≤ source .period) × (length (now map) ≡ cellsOf run) ⌝ }
+    requires { ⌜ ValidRun run × ValidSource source × (run .window ≤ source .period) × (length (now map) ≡ cellsOf run) ⌝ }
     ensures { λ _. ⌜ now (map .exit) ≡ added 255 run (record { source = source; weight = weight } ∷ []) (now (map .entry)) ⌝ }
 {
     let walk = hits::walk::plan(run, source);
     let first = hits::search::find_hit(run, source, RunCell(0));
-    let mut at = hits::walk::place_of(run, source, first);
+    let mut at = hits::walk::line_hit_of(run, source, first);
     let mut cell = at.cell.0 as usize;
     while cell < map.len() {
         map[cell] = plus(map[cell], weight);
@@ -95,7 +95,7 @@ fn add_hits(run: Run, source: Source, weight: u8, map: &mut [u8])
 
 // Adds one source to the map of a run.
 fn add_source(run: Run, source: Source, weight: u8, map: &mut [u8])
-    requires { ⌜ Valid run × ValidSource source × (length (now map) ≡ cellsOf run) ⌝ }
+    requires { ⌜ ValidRun run × ValidSource source × (length (now map) ≡ cellsOf run) ⌝ }
     ensures { λ _. ⌜ now (map .exit) ≡ added 255 run (record { source = source; weight = weight } ∷ []) (now (map .entry)) ⌝ }
 {
     if source.period < run.window {
@@ -124,7 +124,7 @@ fn add_chosen(run: Run, periods: &[u32], weights: &[u32], low: u32, high: u32, m
 
 // The block of a run that starts at a line and has so many lines, or as many as the run has from there on.
 fn block_from(run: Run, first: u32, lines: u32) -> Run
-    requires { ⌜ Valid run × (run .first ≤ first) × (first ≤ run .last) × (1 ≤ lines) ⌝ }
+    requires { ⌜ ValidRun run × (run .first ≤ first) × (first ≤ run .last) × (1 ≤ lines) ⌝ }
     ensures { λ r. ⌜ IsBlock run r × (r .first ≡ first) × (first ≤ r .last) × (r .last ≡ min (run .last) (first + (lines - 1))) ⌝ }
 {
     let last = if run.last - first < lines {

@@ -11,7 +11,7 @@ use Rattle.scope.specs.Refusal.{complaint, windowTests, lineTests, runTests, pe
 use Rattle.sources.specs.Entry.{entryTests, listTests}
 use Rattle.sources.proofs.Entries.{entry}
 use Rattle.map.specs.Sum.{raised}
-use Rattle.map.specs.Map.{weightAt, added}
+use Rattle.map.specs.Promise.{weightAt, added}
 use Rattle.text.specs.Form.{fields, line, srcLines, textOf, Content, Spells}
 use Rattle.text.specs.Promise.{textTests}
 use Rattle.text.proofs.Unique.{reads-unique}

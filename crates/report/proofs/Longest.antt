@@ -9,10 +9,10 @@ use lib.ListN.{length, length-append}
 use Rattle.decimal.specs.Digits.{digits}
 use Rattle.decimal.proofs.Laws.{length-le, length-32}
 use Rattle.scope.specs.declared.Run.{Run}
-use Rattle.scope.specs.Run.{Valid, Within, cellsOf}
+use Rattle.scope.specs.Run.{ValidRun, UpTo, cellsOf}
 use Rattle.sources.specs.Entry.{Entry, entriesOf}
 use Rattle.text.specs.Form.{fields, line, Small, srcWord, runWord, runNumbers}
-use Rattle.map.proofs.Entries.{AllValid, valid-entries, added-length, added-within}
+use Rattle.map.proofs.Entries.{ValidEntries, valid-entries, added-length, added-within}
 use Rattle.report.specs.Report.{mapWord, endWord, runReport, entryReport, srcReport, cellReport, mapReport, above, endReport, zeros, reportedMap, cellsReport, wholeReport}
 use Rattle.report.specs.Inner.{Reportable}
 use Rattle.report.proofs.Mapped.{zeros-long}
@@ -30,7 +30,7 @@ line-long word numbers s = omega (arith, fields-long numbers s, length-append wo
 
 -- ---- the sources
 
-entry-long : (run : Run) (k : ℕ) (e : Entry) → cellsOf run ≤ 65536 → k < 2 ^ 32 → AllValid 255 (e ∷ []) → length (entryReport run k e) ≤ 48
+entry-long : (run : Run) (k : ℕ) (e : Entry) → cellsOf run ≤ 65536 → k < 2 ^ 32 → ValidEntries 255 (e ∷ []) → length (entryReport run k e) ≤ 48
 unfolding entryReport
 entry-long run k e few place v =
     let own = v .0 in
@@ -38,7 +38,7 @@ entry-long run k e few place v =
     let s = own .source in
     line-long srcWord _ (place, (omega (arith, s .fits), (omega (arith, own .fits), (omega arith, tt))))
 
-sources-long : (run : Run) (k : ℕ) (entries : List Entry) → cellsOf run ≤ 65536 → k + length entries ≤ 65536 → AllValid 255 entries
+sources-long : (run : Run) (k : ℕ) (entries : List Entry) → cellsOf run ≤ 65536 → k + length entries ≤ 65536 → ValidEntries 255 entries
     → length (srcReport run k entries) ≤ 48 * length entries
 unfolding srcReport
 sources-long run k [] few place v = omega arith
@@ -67,7 +67,7 @@ cell-long x value h v = go (eqb value 0)
           length-append (digits value) (10 ∷ []),
         )
 
-cells-long : (x : ℕ) (cells : List ℕ) → x + length cells ≤ 65536 → Within 255 cells → length (mapReport x cells) ≤ 14 * length cells
+cells-long : (x : ℕ) (cells : List ℕ) → x + length cells ≤ 65536 → UpTo 255 cells → length (mapReport x cells) ≤ 14 * length cells
 unfolding mapReport
 cells-long x [] h w = omega arith
 cells-long x (v ∷ cells) h w =
@@ -93,11 +93,11 @@ map-long : (run : Run) (entries : List Entry) → length (reportedMap run entrie
 unfolding reportedMap
 map-long run entries = added-length 255 run entries (zeros (cellsOf run)) ∙ zeros-long (cellsOf run)
 
-map-within : (run : Run) (entries : List Entry) → Within 255 (reportedMap run entries)
+map-within : (run : Run) (entries : List Entry) → UpTo 255 (reportedMap run entries)
 unfolding reportedMap
 map-within run entries = added-within 255 run entries (zeros (cellsOf run))
 
-run-long : {run : Run} → Valid run → cellsOf run ≤ 65536 → length (runReport run) ≤ 59
+run-long : {run : Run} → ValidRun run → cellsOf run ≤ 65536 → length (runReport run) ≤ 59
 unfolding runReport
 run-long {run} v few =
     line-long runWord (runNumbers run ++ (cellsOf run ∷ []))

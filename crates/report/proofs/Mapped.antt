@@ -12,8 +12,8 @@ use Rattle.sources.specs.Entry.{entriesOf}
 use Rattle.scope.proofs.Judged.{Passes, sound, both}
 use Rattle.scope.proofs.Limits.{valid-run-passes}
 use Rattle.map.specs.declared.Added.{Added}
-use Rattle.map.specs.Map.{mapTests, added, MapPromise}
-use Rattle.map.proofs.Promise.{stores-added}
+use Rattle.map.specs.Promise.{mapTests, added, MapPromise}
+use Rattle.map.proofs.Unique.{stores-added}
 use Rattle.report.specs.Report.{zeros, reportedMap}
 use Rattle.report.specs.Inner.{Reportable, cleared}
 

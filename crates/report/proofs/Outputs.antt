@@ -7,7 +7,7 @@ use mathlib.Core.List.{List, [], _∷_, _++_}
 use lib.ListN.{length, take, drop, replicate, length-take, length-append}
 use lib.Seq.{length-take-le}
 use borrow.Author.Tests.{ltb-false}
-use Rattle.decimal.specs.Promises.{Written}
+use Rattle.decimal.specs.Promise.{Written}
 use Rattle.scope.specs.declared.Run.{Run}
 use Rattle.scope.specs.Run.{cellsOf}
 use Rattle.sources.specs.Entry.{entriesOf}
@@ -35,7 +35,7 @@ blank-long = zeros-long 921600
 -- what was written into the blank room is the output
 pub prints : {room bytes : List ℕ} {next : ℕ} {after : List ℕ} → room ≡ blank → Written room 0 bytes next after → Prints bytes (record { length = next; bytes = after })
 prints {room} {bytes} {next} {after} e w =
-    let count : next ≡ length bytes = w .place ∙ zero-add (length bytes) in
+    let count : next ≡ length bytes = w .ends ∙ zero-add (length bytes) in
     record { counts = count; begins = w .kept ∙ ap (λ k. bytes ++ drop k room) count ∙ ap (λ b. bytes ++ drop (length bytes) b) e }
 
 -- ---- the text

@@ -6,11 +6,11 @@ use mathlib.Core.Path.{_≡_, sym, _∙_, subst}
 use mathlib.Core.List.{List, [], _∷_, _++_}
 use lib.ListN.{length, drop, getD, drop-of-length-le}
 use borrow.Author.Tests.{ne-eqb, lt-leb}
-use Rattle.decimal.specs.Promises.{Written}
+use Rattle.decimal.specs.Promise.{Written}
 use Rattle.scope.specs.declared.Run.{Run}
 use Rattle.scope.specs.declared.RunCell.{RunCell}
 use Rattle.scope.specs.declared.Source.{Source}
-use Rattle.scope.specs.Run.{Valid, ValidSource, cellsOf}
+use Rattle.scope.specs.Run.{ValidRun, ValidSource, cellsOf}
 use Rattle.scope.specs.Hit.{hitsFrom}
 use Rattle.sources.specs.Entry.{Entry, entriesOf}
 use Rattle.scope.proofs.Judged.{Passes, sound, both, grant-reply}
@@ -19,9 +19,9 @@ use Rattle.scope.proofs.Hits.{length-hits}
 use Rattle.hits.specs.declared.Listing.{Listing}
 use Rattle.hits.specs.declared.Listing.the-variants.{Done}
 use Rattle.hits.specs.Promise.{firstHitTests, listingTests, listed, ListingPromise}
-use Rattle.hits.proofs.Theorems.{says-listing-injective}
+use Rattle.hits.proofs.Unique.{says-listing-injective}
 use Rattle.sources.proofs.Entries.{entry, entries-from}
-use Rattle.map.proofs.Entries.{AllValid, valid-entries}
+use Rattle.map.proofs.Entries.{ValidEntries, valid-entries}
 use Rattle.report.specs.Report.{entryReport, srcReport}
 use Rattle.report.specs.Inner.{Reportable}
 use Rattle.report.proofs.Writing.{Writing, piece-fits, writing-more, writing-ends, writing-starts}
@@ -33,7 +33,7 @@ unfolding hitsFrom
 hits-few run source = omega (arith, length-hits run source 0 (cellsOf run - 0))
 
 -- a room with a place for every cell takes all hits in one call
-pub all-listed : {run : Run} {source : Source} {start : RunCell} {room : List ℕ} {r : Listing} {after : List ℕ} → Valid run → ValidSource source → start .0 ≡ 0
+pub all-listed : {run : Run} {source : Source} {start : RunCell} {room : List ℕ} {r : Listing} {after : List ℕ} → ValidRun run → ValidSource source → start .0 ≡ 0
     → cellsOf run ≤ length room → ListingPromise run source start room r after → r ≡ Done (length (hitsFrom run source 0))
 unfolding listingTests firstHitTests listed
 all-listed {run} {source} {start} {room} {r} v s zero long p =
@@ -56,7 +56,7 @@ pub record SrcLines (before : List ℕ) (at : ℕ) (run : Run) (periods weights 
   pub writing :
       Writing before at (srcReport run 1 (entriesOf periods weights)) (srcReport run (suc k) (entriesOf (drop k periods) (drop k weights))) next room
   pub equal : length periods ≡ length weights
-  pub valid : AllValid 255 (entriesOf (drop k periods) (drop k weights))
+  pub valid : ValidEntries 255 (entriesOf (drop k periods) (drop k weights))
 
 pub src-starts : {room : List ℕ} {at : ℕ} {run : Run} {periods weights : List ℕ} → Reportable run periods weights
     → at + length (srcReport run 1 (entriesOf periods weights)) ≤ length room → SrcLines room at run periods weights 0 at room
@@ -76,8 +76,8 @@ module _ {before : List ℕ} {at : ℕ} {run : Run} {periods weights : List ℕ}
   unfolding srcReport
   from = rw (split, add-one k)
 
-  here-valid : AllValid 255 (here ∷ entriesOf (drop (k + 1) periods) (drop (k + 1) weights))
-  here-valid = subst (AllValid 255) split (w .valid)
+  here-valid : ValidEntries 255 (here ∷ entriesOf (drop (k + 1) periods) (drop (k + 1) weights))
+  here-valid = subst (ValidEntries 255) split (w .valid)
 
   pub src-valid : ValidSource (record { period = getD periods k 0 })
   src-valid = here-valid .0 .source

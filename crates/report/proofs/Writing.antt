@@ -7,7 +7,7 @@ use mathlib.Core.List.{List, [], _∷_, _++_, append-assoc, append-nil}
 use lib.ListN.{length, drop, getD, set, length-append, drop-of-length-le}
 use lib.Seq.{drop-cons}
 use Rattle.decimal.specs.Digits.{digits}
-use Rattle.decimal.specs.Promises.{Written}
+use Rattle.decimal.specs.Promise.{Written}
 use Rattle.text.specs.Form.{fields, line}
 use Rattle.decimal.proofs.Rooms.{written-none, written-one, written-append, written-length}
 
@@ -24,7 +24,7 @@ writing-starts room at whole h = record { done = []; writes = written-none room 
 module _ {before : List ℕ} {at : ℕ} {whole rest : List ℕ} {next : ℕ} {room : List ℕ} (w : Writing before at whole rest next room) where
   -- the rest fits
   pub writing-fits : next + length rest ≤ length before
-  writing-fits = omega (arith, w .writes .place, w .fits, length-append (w .done) rest, ap length (w .makes))
+  writing-fits = omega (arith, w .writes .ends, w .fits, length-append (w .done) rest, ap length (w .makes))
 
   pub writing-long : length room ≡ length before
   writing-long = written-length (w .writes) (omega (arith, writing-fits))
@@ -121,7 +121,7 @@ module _ (room : List ℕ) (at : ℕ) (word numbers : List ℕ) (fits : at + len
   unfolding line
   word-written {next} {after} w =
       let l = length-append word (fields numbers) in
-      record { writing = writing-starts after next (fields numbers) (omega (arith, w .place, written-length w (omega (arith, w .place)))) }
+      record { writing = writing-starts after next (fields numbers) (omega (arith, w .ends, written-length w (omega (arith, w .ends)))) }
 
   pub line-written : {next : ℕ} {after : List ℕ} {end : ℕ} {last : List ℕ} → Written room at word next after → Written after next (fields numbers) end last
       → Written room at (line word numbers) end last

@@ -13,7 +13,7 @@ use Rattle.scope.specs.Reply.{Said, refused, answered}
 use Rattle.sources.specs.Entry.{Entry}
 use Rattle.text.specs.Form.{line, runWord, srcWord, runNumbers, Content}
 use Rattle.text.specs.Promise.{Reads, replyTo, handed}
-use Rattle.map.specs.Map.{added}
+use Rattle.map.specs.Promise.{added}
 use Rattle.report.specs.declared.Output.{Output}
 
 -- The word `map`.

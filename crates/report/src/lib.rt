@@ -9,9 +9,9 @@ ghost use Prim.Native.Nat.{_+_, _≤_};
 ghost use mathlib.Core.Path.{_≡_};
 ghost use mathlib.Core.List.{[], _∷_, _++_};
 ghost use lib.ListN.{length};
-ghost use Rattle.decimal.specs.Promises.{Written};
+ghost use Rattle.decimal.specs.Promise.{Written};
 ghost use Rattle.text.specs.Form.{line};
-ghost use Rattle.scope.specs.Run.{Valid, ValidSource, cellsOf};
+ghost use Rattle.scope.specs.Run.{ValidRun, ValidSource, cellsOf};
 ghost use Rattle.scope.specs.Hit.{hitsFrom};
 ghost use Rattle.sources.specs.Entry.{entriesOf};
 ghost use Rattle.report.specs.Report.{zeros, blank, runReport, entryReport, srcReport, cellReport, mapReport, above, endReport, reportedMap, cellsReport, wholeReport, refusedWord, Prints, ReportPromise};
@@ -139,7 +139,7 @@ fn hit_room() -> [u64; CELLS]
 
 // How many cells of a run a source hits. They are no more than its cells, so all of them are listed in one call.
 fn count_hits(run: Run, source: Source) -> u64
-    requires { ⌜ Valid run × ValidSource source × (cellsOf run ≤ 65536) ⌝ }
+    requires { ⌜ ValidRun run × ValidSource source × (cellsOf run ≤ 65536) ⌝ }
     ensures { λ r. ⌜ r ≡ length (hitsFrom run source 0) ⌝ }
 {
     let mut room = hit_room();
@@ -158,7 +158,7 @@ fn write_source(
     source: Source,
     weight: u32,
 ) -> usize
-    requires { ⌜ Valid run × ValidSource source × (cellsOf run ≤ 65536) ⌝ }
+    requires { ⌜ ValidRun run × ValidSource source × (cellsOf run ≤ 65536) ⌝ }
     requires { ⌜ at + length (entryReport run place (record { source = source; weight = weight })) ≤ length (now room) ⌝ }
     ensures { λ r. ⌜ Written (now (room .entry)) at (entryReport run place (record { source = source; weight = weight })) r (now (room .exit)) ⌝ }
 {
@@ -195,7 +195,7 @@ fn write_sources(room: &mut [u8], at: usize, run: Run, periods: &[u32], weights:
 
 // Writes the line of a run.
 fn write_run(room: &mut [u8], at: usize, run: Run) -> usize
-    requires { ⌜ Valid run ⌝ }
+    requires { ⌜ ValidRun run ⌝ }
     requires { ⌜ at + length (runReport run) ≤ length (now room) ⌝ }
     ensures { λ r. ⌜ Written (now (room .entry)) at (runReport run) r (now (room .exit)) ⌝ }
 {

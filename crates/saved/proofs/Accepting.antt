@@ -6,7 +6,7 @@ use native.Mathlib.Decide.{decLe}
 use native.Mathlib.Omega.{arith}
 use lib.ListN.{length, take, drop, length-take, length-drop, take-append-drop}
 use lib.Seq.{take-all, drop-drop}
-use Rattle.scope.specs.Run.{Within, cellsOf}
+use Rattle.scope.specs.Run.{UpTo, cellsOf}
 use Rattle.scope.proofs.Judged.{Passes}
 use Rattle.scope.proofs.Limits.{passes-first, passes-then}
 use Rattle.blocks.specs.Block.{blockOf, contents, blockTests}
@@ -29,7 +29,7 @@ each-passes size file (suc n) k p h = go (decLe (suc k) n) (each-passes size fil
     go (yes l) ih = ih l
     go (no l) ih = let last : k ≡ n = omega arith in rw last (passes-then p)
 
-module _ (file : List ℕ) (a : Accepted file) (b : Within 255 file) where
+module _ (file : List ℕ) (a : Accepted file) (b : UpTo 255 file) where
   last-block : {k : ℕ} → k < blocksFor (cellsOf (runOf file)) → 512 * suc k + 512 ≤ length file
   unfolding fileLength
   last-block h = let l = a .long in omega arith

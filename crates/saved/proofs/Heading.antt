@@ -9,7 +9,7 @@ use borrow.Author.Tests.{not-false}
 use lib.ListN.{length, getD, take, drop, replicate, length-append, length-take, length-drop}
 use lib.Seq.{getD-take, drop-cons, take-add, take-take, drop-drop}
 use Rattle.scope.specs.declared.Run.{Run}
-use Rattle.scope.specs.Run.{Valid, Within}
+use Rattle.scope.specs.Run.{ValidRun, UpTo}
 use Rattle.scope.proofs.Judged.{Passes, sound, both}
 use Rattle.scope.proofs.Limits.{passes-first, passes-then, passes-when}
 use Rattle.blocks.specs.Block.{four, fourAt, filled, sealed, blockOf, allZero}
@@ -26,7 +26,7 @@ pub length-heading : (run : Run) → length (heading run) ≡ 20
 unfolding heading
 length-heading run = simp (length-append, length-four)
 
-bytes-heading : (run : Run) → Within 255 (heading run)
+bytes-heading : (run : Run) → UpTo 255 (heading run)
 unfolding heading four
 bytes-heading run =
     bytes-append (four 1) (four (run .window) ++ four (run .interval) ++ four (run .first) ++ four (run .last)) (bytes-four 1)
@@ -35,7 +35,7 @@ bytes-heading run =
     (bytes-append (four (run .window)) (four (run .interval)) (bytes-four _) (bytes-four _)) (bytes-four _)) (bytes-four _))
 
 -- the run is told, whatever follows
-pub run-told : (run : Run) (rest : List ℕ) → Valid run → runOf (blockOf 0 (heading run) ++ rest) ≡ run
+pub run-told : (run : Run) (rest : List ℕ) → ValidRun run → runOf (blockOf 0 (heading run) ++ rest) ≡ run
 unfolding runOf blockOf sealed filled heading four fourAt
 run-told run rest v =
     let file = blockOf 0 (heading run) ++ rest in
@@ -61,7 +61,7 @@ heading-passes run =
     (sound (ap not (spare-there run)))
 
 -- the version and the spare bytes of a block that passes, and the numbers behind them
-module _ (file : List ℕ) (l : 512 ≤ length file) (b : Within 255 file) (p : Passes (headingTests (blockAt file 0))) where
+module _ (file : List ℕ) (l : 512 ≤ length file) (b : UpTo 255 file) (p : Passes (headingTests (blockAt file 0))) where
   spare-told : take 4 (drop 4 file) ≡ 1 ∷ 0 ∷ 0 ∷ 0 ∷ []
   unfolding headingTests blockAt
   spare-told =

@@ -7,7 +7,7 @@ use mathlib.Core.List.{List}
 use native.Mathlib.Omega.{arith}
 use lib.ListN.{length}
 use Rattle.scope.specs.declared.Run.{Run}
-use Rattle.scope.specs.Run.{Valid, Within, cellsOf}
+use Rattle.scope.specs.Run.{ValidRun, UpTo, cellsOf}
 use Rattle.scope.proofs.Judged.{sound, both, grant-stored, said-answered}
 use Rattle.scope.proofs.Limits.{valid-run-passes, passes-first, passes-then}
 use Rattle.saved.specs.declared.Saved.{Saved}
@@ -49,7 +49,7 @@ pub only-reading : {file map f : List ℕ} {a : Loaded} → ReadingPromise file 
 only-reading p answer after = (λ q. reading-unique q p, λ e. rw (e .0, e .1) p)
 
 -- a run within the limits, its map and a room of the file's length are saved
-pub saves : {run : Run} {map room : List ℕ} → Valid run → length map ≡ cellsOf run → length room ≡ fileLength (cellsOf run) → SavingPromise run map room Done (fileOf run map)
+pub saves : {run : Run} {map room : List ℕ} → ValidRun run → length map ≡ cellsOf run → length room ≡ fileLength (cellsOf run) → SavingPromise run map room Done (fileOf run map)
 unfolding savingTests
 saves v m l = grant-saving (both (both (valid-run-passes v) (sound (agrees refl refl m))) (sound (agrees refl refl l))) refl
 
@@ -68,7 +68,7 @@ stored-there {run} {map} {room} {file} p =
     }
 
 -- "A saved map reads back as it was written": whatever the map holds, and whatever the lent room held
-pub reads-back : {run : Run} {map room file into : List ℕ} → Valid run → Within 255 map → SavingPromise run map room Done file → length into ≡ length map → (answer : Loaded) (after : List ℕ) → ReadingPromise file into answer after ↔ (answer ≡ Of run) × (after ≡ map)
+pub reads-back : {run : Run} {map room file into : List ℕ} → ValidRun run → UpTo 255 map → SavingPromise run map room Done file → length into ≡ length map → (answer : Loaded) (after : List ℕ) → ReadingPromise file into answer after ↔ (answer ≡ Of run) × (after ≡ map)
 unfolding readingTests
 reads-back {run} {map} {room} {file} {into} v b p l =
     let s = stored-there p in
@@ -77,7 +77,7 @@ reads-back {run} {map} {room} {file} {into} v b p l =
     only-reading (rw (s .is) (grant-reading (both (file-passes run map v (s .cells) b) fits) (sym same-run) (sym (map-read run map v (s .cells)))))
 
 -- "and an accepted file written again gives the same bytes": into any room of the file's length
-pub writes-back : {run : Run} {file into map room : List ℕ} → Within 255 file → ReadingPromise file into (Of run) map → length room ≡ length file → (answer : Saved) (after : List ℕ) → SavingPromise run map room answer after ↔ (answer ≡ Done) × (after ≡ file)
+pub writes-back : {run : Run} {file into map room : List ℕ} → UpTo 255 file → ReadingPromise file into (Of run) map → length room ≡ length file → (answer : Saved) (after : List ℕ) → SavingPromise run map room answer after ↔ (answer ≡ Done) × (after ≡ file)
 unfolding readingTests savingTests
 writes-back {run} {file} {into} {map} {room} b p l =
     let told = said-answered (readingTests file into) (p .says) in

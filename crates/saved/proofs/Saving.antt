@@ -8,7 +8,7 @@ use borrow.Author.Tests.{ne-eqb}
 use lib.ListN.{length, take, drop, length-append, length-drop}
 use lib.Seq.{take-nil, take-all, take-at, drop-at, take-add, drop-drop, take-append-add}
 use Rattle.scope.specs.declared.Run.{Run}
-use Rattle.scope.specs.Run.{Valid, Within, cellsOf}
+use Rattle.scope.specs.Run.{ValidRun, UpTo, cellsOf}
 use Rattle.scope.proofs.Judged.{Passes, sound, both, no-tests}
 use Rattle.scope.proofs.Limits.{valid-run-passes, cells-few}
 use Rattle.blocks.specs.Block.{filled, blockOf, contents}
@@ -43,7 +43,7 @@ cells-at run map k h =
     ∙ ap (λ l. take 512 (drop (512 * k) l)) (drop-at (blockOf 0 (heading run)) (cellBlocks map n) 512 (length-block 0 (heading run)))
     ∙ first-joined-at n k (record { each = λ j b. length-block (suc j) (drop (504 * j) map) }) h
 
-module _ (run : Run) (map : List ℕ) (v : Valid run) (whole : length map ≡ cellsOf run) where
+module _ (run : Run) (map : List ℕ) (v : ValidRun run) (whole : length map ≡ cellsOf run) where
   pub run-read : runOf (fileOf run map) ≡ run
   unfolding fileOf
   run-read = run-told run (cellBlocks map (blocksFor (cellsOf run))) v
@@ -91,12 +91,12 @@ module _ (run : Run) (map : List ℕ) (v : Valid run) (whole : length map ≡ ce
       ∙ cells-read n (le-refl n)
       ∙ take-all (504 * n) map (omega arith)
 
-  pub cells-pass : Within 255 map → (n : ℕ) → n ≤ blocksFor (cellsOf run) → Passes (cellBlocksTests (cellsOf run) (fileOf run map) n)
+  pub cells-pass : UpTo 255 map → (n : ℕ) → n ≤ blocksFor (cellsOf run) → Passes (cellBlocksTests (cellsOf run) (fileOf run map) n)
   unfolding cellBlocksTests
   cells-pass b zero h = no-tests
   cells-pass b (suc k) h = both (cells-pass b k (omega arith)) (rw (cells-at run map k h) (block-passes (suc k) (drop (504 * k) map) (cellsOf run - 504 * k) (number-fits h) (bytes-drop (504 * k) map b) (simp length-drop (omega arith))))
 
-  pub file-passes : Within 255 map → Passes (fileTests (fileOf run map))
+  pub file-passes : UpTo 255 map → Passes (fileTests (fileOf run map))
   unfolding fileTests fileLength
   file-passes b =
       let saved = fileOf run map in

@@ -7,7 +7,7 @@ use native.Mathlib.Nat.{add-zero, le-of-eq}
 use native.Mathlib.Omega.{arith}
 use lib.ListN.{length, getD, take, drop, length-take, length-drop, take-append-drop}
 use lib.Seq.{getD-take, getD-drop, take-all, take-add, drop-at, take-at}
-use Rattle.scope.specs.Run.{Within}
+use Rattle.scope.specs.Run.{UpTo}
 use Rattle.blocks.specs.Block.{four, fourAt, checkOf, filled, sealed, blockOf, contents, allZero, blockTests}
 use borrow.Author.Tests.{not-false}
 use Rattle.scope.proofs.Judged.{Passes, sound, both}
@@ -35,7 +35,7 @@ four-of {a} {b} {c} {d} ha hb hc hd =
     let e₃ : d % 256 ≡ d = omega arith in
     rw (low (b + 256 * (c + 256 * d)) ha, high (b + 256 * (c + 256 * d)) ha, low (c + 256 * d) hb, high (c + 256 * d) hb, low d hc, high d hc, e₃)
 
-four-there : (l : List ℕ) → length l ≡ 4 → Within 255 l → four (fourAt l 0) ≡ l
+four-there : (l : List ℕ) → length l ≡ 4 → UpTo 255 l → four (fourAt l 0) ≡ l
 unfolding fourAt
 four-there (a ∷ b ∷ c ∷ d ∷ []) e h = four-of (h 0) (h 1) (h 2) (h 3)
 four-there [] e h = absurd (omega arith)
@@ -52,7 +52,7 @@ pub four-drop : (l : List ℕ) (k n : ℕ) → 4 ≤ n → fourAt (take n (drop 
 unfolding fourAt
 four-drop l k n h = rw (byte-at l k n 0 (omega arith), byte-at l k n 1 (omega arith), byte-at l k n 2 (omega arith), byte-at l k n 3 (omega arith), add-zero k)
 
-pub four-back : (l : List ℕ) (k : ℕ) → Within 255 l → k + 4 ≤ length l → take 4 (drop k l) ≡ four (fourAt l k)
+pub four-back : (l : List ℕ) (k : ℕ) → UpTo 255 l → k + 4 ≤ length l → take 4 (drop k l) ≡ four (fourAt l k)
 four-back l k b h = sym (ap four (sym (four-drop l k 4 (omega arith))) ∙ four-there (take 4 (drop k l)) (simp (length-take, length-drop) (omega arith)) (bytes-take 4 (drop k l) (bytes-drop k l b)))
 
 -- the parts of a block that is laid down
@@ -70,7 +70,7 @@ module _ (k : ℕ) (bytes : List ℕ) where
       ap (λ l. fourAt l 0) (append-assoc (four k) (filled bytes) (four (checkOf (four k ++ filled bytes))))
       ∙ four-read k (filled bytes ++ four (checkOf (four k ++ filled bytes))) h
 
-  block-check : Within 255 bytes → fourAt (blockOf k bytes) 508 ≡ checkOf (blockOf k bytes)
+  block-check : UpTo 255 bytes → fourAt (blockOf k bytes) 508 ≡ checkOf (blockOf k bytes)
   unfolding blockOf sealed
   block-check b =
       let front = four k ++ filled bytes in
@@ -86,7 +86,7 @@ module _ (k : ℕ) (bytes : List ℕ) where
   unfolding filled
   block-filling size l = all-zero-behind size (take 504 bytes) (504 - length bytes) (simp length-take (omega arith))
 
-  pub block-passes : (size : ℕ) → k < 4294967296 → Within 255 bytes → length bytes ≤ size → Passes (blockTests k size (blockOf k bytes))
+  pub block-passes : (size : ℕ) → k < 4294967296 → UpTo 255 bytes → length bytes ≤ size → Passes (blockTests k size (blockOf k bytes))
   unfolding blockTests
   block-passes size h b l =
       both
@@ -102,7 +102,7 @@ filled-front l size e z =
     sym (take-append-drop size l) ∙ rw (take-all 504 (take size l) short, ← rest, ← all-zero-replicate (drop size l) z)
 
 -- a block that passes is the block that is laid down
-pub block-is : (k size : ℕ) (block : List ℕ) → length block ≡ 512 → Within 255 block → Passes (blockTests k size block) → block ≡ blockOf k (take size (contents block))
+pub block-is : (k size : ℕ) (block : List ℕ) → length block ≡ 512 → UpTo 255 block → Passes (blockTests k size block) → block ≡ blockOf k (take size (contents block))
 unfolding blockTests blockOf sealed contents
 block-is k size block l b p =
     let (number, check) = sealed-right k block .0 (not-false _ (passes-when (passes-first p))) in

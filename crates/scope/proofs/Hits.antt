@@ -15,7 +15,7 @@ use Rattle.signed.proofs.Parts.{parts, sum}
 use Rattle.signed.proofs.Divides.{divides-apart, divides-test, multiples-mod}
 use Rattle.scope.specs.declared.Run.{Run}
 use Rattle.scope.specs.declared.Source.{Source}
-use Rattle.scope.specs.Run.{Valid, linesOf, cellsOf, lineOf, offsetOf, shiftOf}
+use Rattle.scope.specs.Run.{ValidRun, linesOf, cellsOf, lineOf, offsetOf, shiftOf}
 use Rattle.scope.specs.Hit.{instant, Hits, isHit, hitsAmong, hitsFrom}
 use Rattle.scope.proofs.Limits.{of-cond}
 use Rattle.scope.proofs.Numbering.{offset-distance, cell-parts, IsBlock, line-shift, offset-shift}
@@ -96,13 +96,13 @@ one-on-line run source d e j wide h k a b = go (decLt d e) (decLt e d)
     go (no l) (yes m) = absurd (omega (arith, on-gap run source e d j b a m))
     go (no l) (no m) = omega arith
 
-pub one-hit-on-line : {run : Run} → Valid run → (source : Source) (x y : ℕ) → run .window ≤ source .period → isHit run source x ≡ true → isHit run source y ≡ true → lineOf run x ≡ lineOf run y → x ≡ y
+pub one-hit-on-line : {run : Run} → ValidRun run → (source : Source) (x y : ℕ) → run .window ≤ source .period → isHit run source x ≡ true → isHit run source y ≡ true → lineOf run x ≡ lineOf run y → x ≡ y
 one-hit-on-line {run} v source x y wide a b e =
     let same = one-on-line run source (x % run .window) (y % run .window) (lineOf run y) wide (mod-lt x (omega arith)) (mod-lt y (omega arith)) (rw e at (hit-on run source x .0 a)) (hit-on run source y .0 b) in
     sym (cell-parts run x) ∙ rw (e, same) (cell-parts run y)
 
 -- a block's cell is hit exactly if it is hit in the run
-pub hit-shift : {run block : Run} → Valid run → IsBlock run block → (source : Source) (x : ℕ) → isHit block source x ≡ isHit run source (x + shiftOf run block)
+pub hit-shift : {run block : Run} → ValidRun run → IsBlock run block → (source : Source) (x : ℕ) → isHit block source x ≡ isHit run source (x + shiftOf run block)
 unfolding isHit instant
 hit-shift v b source x = rw (offset-shift b x, line-shift v b x, b .interval)
 
@@ -251,7 +251,7 @@ module _ (run : Run) (source : Source) where
   hits-rising x = among-rising x (cellsOf run - x)
 
 -- a block's hits are the run's, moved by the block's shift
-pub hits-shift : {run block : Run} → Valid run → IsBlock run block → (source : Source) (x n : ℕ) → map (λ z. z + shiftOf run block) (hitsAmong block source x n) ≡ hitsAmong run source (x + shiftOf run block) n
+pub hits-shift : {run block : Run} → ValidRun run → IsBlock run block → (source : Source) (x n : ℕ) → map (λ z. z + shiftOf run block) (hitsAmong block source x n) ≡ hitsAmong run source (x + shiftOf run block) n
 unfolding hitsAmong
 hits-shift v b source x zero = refl
 hits-shift {run} {block} v b source x (suc n) =
@@ -260,7 +260,7 @@ hits-shift {run} {block} v b source x (suc n) =
     let next : suc x + shiftOf run block ≡ suc (x + shiftOf run block) = omega arith in
     of-cond move (isHit block source x) (x ∷ more) more ∙ rw (hit-shift v b source x, hits-shift v b source (suc x) n, next)
 
-pub hits-block : {run block : Run} → Valid run → IsBlock run block → (source : Source) (x : ℕ) → map (λ z. z + shiftOf run block) (hitsFrom block source x) ≡ hitsAmong run source (x + shiftOf run block) (cellsOf block - x)
+pub hits-block : {run block : Run} → ValidRun run → IsBlock run block → (source : Source) (x : ℕ) → map (λ z. z + shiftOf run block) (hitsFrom block source x) ≡ hitsAmong run source (x + shiftOf run block) (cellsOf block - x)
 unfolding hitsFrom
 hits-block {run} {block} v b source x = hits-shift v b source x (cellsOf block - x)
 

@@ -1,4 +1,4 @@
--- The tests of 01's table against the table itself: a run passes its tests exactly if it is `Valid`, and a complaint is
+-- The tests of 01's table against the table itself: a run passes its tests exactly if it is `ValidRun`, and a complaint is
 -- the first broken row of the call's list of rows. Then the sizes that the table allows.
 -- The lower limit of the first line is read and made in `valid-run` and `valid-run-passes` alone. Assumes nothing.
 use Prim.Native.Nat.{ℕ, _+_, _/_, _%_, _^_, _≤_, _<_}
@@ -10,7 +10,7 @@ use mathlib.Core.Option.{Option, some, none}
 use borrow.Author.Tests.{ltb-false, le-ltb, eqb-false, ne-eqb}
 use Rattle.scope.specs.declared.Run.{Run}
 use Rattle.scope.specs.declared.Source.{Source}
-use Rattle.scope.specs.Run.{Valid, ValidSource, linesOf, cellsOf}
+use Rattle.scope.specs.Run.{ValidRun, ValidSource, linesOf, cellsOf}
 use Rattle.scope.specs.Refusal.{Reason, Complaint, Tests, _when_, _andThen_, ofSource, orElse, placed, complaint, windowTests, lineTests, runTests, periodTests, sourceTests}
 use Rattle.scope.proofs.Judged.{Passes, sound, both}
 
@@ -65,7 +65,7 @@ pub valid-window-passes : {window : ℕ} → ValidWindow window → Passes (wind
 unfolding windowTests
 valid-window-passes {window} v = both (both (sound (ne-eqb (window % 2) 1 (omega arith))) (sound (le-ltb _ _ (v .narrow)))) (sound (le-ltb _ _ (v .wide)))
 
-pub run-window : {run : Run} → Valid run → ValidWindow (run .window)
+pub run-window : {run : Run} → ValidRun run → ValidWindow (run .window)
 run-window v = omega arith
 
 pub valid-source : {source : Source} → Passes (sourceTests source) → ValidSource source
@@ -79,7 +79,7 @@ pub valid-source-passes : {source : Source} → ValidSource source → Passes (s
 unfolding sourceTests periodTests
 valid-source-passes {source} v = both (sound (ne-eqb (source .period) 0 (omega arith))) (sound (le-ltb _ _ (v .fits)))
 
-pub valid-run : {run : Run} → Passes (runTests run) → run .interval ≤ 4294967295 → Valid run
+pub valid-run : {run : Run} → Passes (runTests run) → run .interval ≤ 4294967295 → ValidRun run
 unfolding runTests lineTests
 valid-run {run} p fits =
     let w = valid-window (passes-first (passes-first p)) in
@@ -89,7 +89,7 @@ valid-run {run} p fits =
     let ticks = eqb-false (run .interval) 0 (passes-when (passes-then p)) in
     omega arith
 
-pub valid-run-passes : {run : Run} → Valid run → Passes (runTests run)
+pub valid-run-passes : {run : Run} → ValidRun run → Passes (runTests run)
 unfolding runTests lineTests
 valid-run-passes {run} v =
     both
@@ -106,22 +106,22 @@ of-cond f true x y = refl
 of-cond f false x y = refl
 
 -- two halves of the window make the window
-pub halves : {run : Run} → Valid run → run .window / 2 + run .window / 2 ≡ run .window
+pub halves : {run : Run} → ValidRun run → run .window / 2 + run .window / 2 ≡ run .window
 halves v = omega arith
 
-pub lines-few : {run : Run} → Valid run → linesOf run ≤ 16777217
+pub lines-few : {run : Run} → ValidRun run → linesOf run ≤ 16777217
 unfolding linesOf
 lines-few v = omega arith
 
-pub lines-some : {run : Run} → Valid run → 1 ≤ linesOf run
+pub lines-some : {run : Run} → ValidRun run → 1 ≤ linesOf run
 unfolding linesOf
 lines-some v = omega arith
 
-pub cells-few : {run : Run} → Valid run → cellsOf run < 2 ^ 37
+pub cells-few : {run : Run} → ValidRun run → cellsOf run < 2 ^ 37
 unfolding cellsOf
 cells-few v = let h = mul-le-mul (v .wide) (lines-few v) in omega arith
 
 -- there is a whole line
-pub window-cells : {run : Run} → Valid run → run .window ≤ cellsOf run
+pub window-cells : {run : Run} → ValidRun run → run .window ≤ cellsOf run
 unfolding cellsOf
 window-cells {run} v = le-mul-of-pos-right (run .window) (lines-some v)

@@ -11,7 +11,7 @@ use lib.IntN.{ℤ, pos, negℤ, _+ℤ_, _-ℤ_, _*ℤ_}
 use lib.Signed.{_<ℤ_}
 use Rattle.signed.proofs.Parts.{up, parts, apart, sum, neg-up, neg-dn}
 use Rattle.scope.specs.declared.Run.{Run}
-use Rattle.scope.specs.Run.{Valid, linesOf, cellsOf, cellOf, lineOf, offsetOf, Before, shiftOf}
+use Rattle.scope.specs.Run.{ValidRun, linesOf, cellsOf, cellOf, lineOf, offsetOf, Before, shiftOf}
 pub use Rattle.scope.specs.Run.{InRun, IsBlock}
 use Rattle.scope.proofs.Limits.{halves}
 
@@ -31,7 +31,7 @@ offset-distance run x =
     let h = pos (run .window / 2) in
     omega (arith, parts, sum (d -ℤ h) h, sum d (negℤ h), neg-up h, neg-dn h)
 
-pub cell-in-run : {run : Run} → Valid run → (x : ℕ) → x < cellsOf run → InRun run (offsetOf run x) (lineOf run x)
+pub cell-in-run : {run : Run} → ValidRun run → (x : ℕ) → x < cellsOf run → InRun run (offsetOf run x) (lineOf run x)
 unfolding cellsOf linesOf lineOf
 cell-in-run {run} v x h =
     let half = pos (run .window / 2) in
@@ -75,7 +75,7 @@ pub record Distance (run : Run) (i : ℤ) : Type 0 where
   pub within : far < run .window
   pub is : i +ℤ pos (run .window / 2) ≡ pos far
 
-pub distance : {run : Run} → Valid run → (i : ℤ) (j : ℕ) → InRun run i j → Distance run i
+pub distance : {run : Run} → ValidRun run → (i : ℤ) (j : ℕ) → InRun run i j → Distance run i
 distance {run} v i j w =
     let half = pos (run .window / 2) in
     record {
@@ -92,7 +92,7 @@ pub record CellAt (run : Run) (i : ℤ) (j : ℕ) : Type 0 where
   pub line : lineOf run cell ≡ j
   pub number : cellOf run i j ≡ pos cell
 
-pub number-cell : {run : Run} → Valid run → (i : ℤ) (j : ℕ) → InRun run i j → CellAt run i j
+pub number-cell : {run : Run} → ValidRun run → (i : ℤ) (j : ℕ) → InRun run i j → CellAt run i j
 unfolding cellOf cellsOf linesOf
 number-cell {run} v i j w =
     let half = pos (run .window / 2) in
@@ -129,7 +129,7 @@ offset-order run x y =
     omega (arith, parts, offset-distance run x, offset-distance run y, sum (offsetOf run x) half, sum (offsetOf run y) half)
 
 -- "Rising x is line order, then offset order."
-pub cell-order : {run : Run} → Valid run → (x y : ℕ) → (x < y) ↔ Before run x y
+pub cell-order : {run : Run} → ValidRun run → (x y : ℕ) → (x < y) ↔ Before run x y
 unfolding lineOf
 cell-order {run} v x y = (λ l. to (decide .0 l), λ b. decide .1 (from b))
   where
@@ -154,10 +154,10 @@ cell-same run x y e f = cc (cell-number run x, cell-number run y)
 -- ---- blocks
 
 -- a block with a line keeps the limits of its run
-pub valid-block : {run block : Run} → Valid run → IsBlock run block → block .first ≤ block .last → Valid block
+pub valid-block : {run block : Run} → ValidRun run → IsBlock run block → block .first ≤ block .last → ValidRun block
 valid-block v b some = omega arith
 
-pub line-shift : {run block : Run} → Valid run → IsBlock run block → (x : ℕ) → lineOf block x ≡ lineOf run (x + shiftOf run block)
+pub line-shift : {run block : Run} → ValidRun run → IsBlock run block → (x : ℕ) → lineOf block x ≡ lineOf run (x + shiftOf run block)
 unfolding lineOf shiftOf
 line-shift {run} {block} v b x =
     rw (b .window, add-mul-div-right x (block .first - run .first) {z = run .window} (omega arith)) (omega arith)
@@ -194,7 +194,7 @@ shift-last {run} {block} b some e =
     rw (k, b .window) (omega arith)
 
 -- a shift is no larger than a run can be
-pub shift-few : {run block : Run} → Valid run → Valid block → shiftOf run block < 2 ^ 37
+pub shift-few : {run block : Run} → ValidRun run → ValidRun block → shiftOf run block < 2 ^ 37
 unfolding shiftOf
 shift-few {run} {block} v b =
     let lines : block .first - run .first ≤ 16777216 = omega arith in

@@ -2,4 +2,4 @@ pub mod Run
 pub mod Hit
 pub mod Refusal
 pub mod Reply
-pub mod Verdicts
+pub mod InnerVerdict

@@ -2,8 +2,6 @@
 use Prim.Native.Nat.{ℕ}
 use mathlib.Core.Option.{Option, some, none}
 use Rattle.scope.specs.Refusal.{Complaint, number}
-use Rattle.scope.specs.declared.Verdict.{Verdict}
-use Rattle.scope.specs.declared.Verdict.the-variants.{Fine, Refused}
 
 -- What a reply says, whatever enum carries it: a refusal's number, or an answer.
 pub data Said (A : Type 0) : Type 0 where
@@ -19,8 +17,3 @@ reply (some c) answer = refused (number (c .reason))
 abbrev pub stored : {A : Type 0} → Option Complaint → A → A → A
 stored none before after = after
 stored (some c) before after = before
-
--- A verdict on a call's tests, or on some of them, as an answer of the code.
-abbrev pub verdict : Option Complaint → Verdict
-verdict none = Fine
-verdict (some c) = Refused (number (c .reason))

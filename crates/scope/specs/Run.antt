@@ -12,7 +12,7 @@ use Rattle.scope.specs.declared.RunCell.{RunCell}
 use Rattle.scope.specs.declared.BlockCell.{BlockCell}
 
 -- The table of ranges: "window I: even, 2 to 4,096; interval T: 1 to 4,294,967,295; lines: first ≥ 1, last ≥ first, last ≤ 16,777,216".
-pub record Valid (run : Run) : Type 0 where
+pub record ValidRun (run : Run) : Type 0 where
   pub even : run .window % 2 ≡ 0
   pub narrow : 2 ≤ run .window
   pub wide : run .window ≤ 4096
@@ -28,8 +28,8 @@ pub record ValidSource (source : Source) : Type 0 where
   pub fits : source .period ≤ 2147483647
 
 -- The same table: "map cell: one byte". No number of the list is above the ceiling; of bytes that is 255.
-abbrev pub Within : ℕ → List ℕ → Type 0
-Within ceiling numbers = (k : ℕ) → getD numbers k 0 ≤ ceiling
+abbrev pub UpTo : ℕ → List ℕ → Type 0
+UpTo ceiling numbers = (k : ℕ) → getD numbers k 0 ≤ ceiling
 
 -- "a first line and a last line": both belong to the run.
 unfoldable pub linesOf : Run → ℕ

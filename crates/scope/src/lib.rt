@@ -2,10 +2,10 @@
 // Every function is proved. No function here is a public operation: each is an inner step of the crates above.
 ghost use mathlib.Core.Path.{_≡_};
 ghost use Prim.Native.Nat.{_≤_};
-ghost use Rattle.scope.specs.Run.{Valid, IsBlock, cellsOf, shiftOf, toRun, toBlock};
+ghost use Rattle.scope.specs.Run.{ValidRun, IsBlock, cellsOf, shiftOf, toRun, toBlock};
 ghost use Rattle.scope.specs.Refusal.{complaint, windowTests, lineTests, runTests, periodTests, sourceTests};
-ghost use Rattle.scope.specs.Reply.{verdict};
-ghost use Rattle.scope.specs.Verdicts.{firstOf};
+ghost use Rattle.scope.specs.InnerVerdict.{verdict};
+ghost use Rattle.scope.specs.InnerVerdict.{firstOf};
 
 // A run: the window's width and the interval in ticks, the first and the last line.
 pub struct Run {
@@ -114,7 +114,7 @@ pub fn judge_source(source: Source) -> Verdict
 
 // Inner step. How many cells a run within the limits has: at most 4,096 on each of its lines.
 pub fn cells(run: Run) -> u64
-    requires { ⌜ Valid run ⌝ }
+    requires { ⌜ ValidRun run ⌝ }
     ensures { λ r. ⌜ r ≡ cellsOf run ⌝ }
 {
     run.window as u64 * (run.last - run.first + 1) as u64
@@ -122,7 +122,7 @@ pub fn cells(run: Run) -> u64
 
 // "(block's first line - run's first line)·I": what turns a block's cell number into the run's.
 fn block_shift(run: Run, block: Run) -> u64
-    requires { ⌜ Valid run × IsBlock run block × Valid block ⌝ }
+    requires { ⌜ ValidRun run × IsBlock run block × ValidRun block ⌝ }
     ensures { λ r. ⌜ r ≡ shiftOf run block ⌝ }
 {
     (block.first - run.first) as u64 * run.window as u64
@@ -131,7 +131,7 @@ fn block_shift(run: Run, block: Run) -> u64
 impl BlockCell {
     // Inner step. The run's number of a cell of one of its blocks, or of the end of the block: the block's shift is added.
     pub fn in_run(self, run: Run, block: Run) -> RunCell
-        requires { ⌜ Valid run × IsBlock run block × Valid block × self .0 ≤ cellsOf block ⌝ }
+        requires { ⌜ ValidRun run × IsBlock run block × ValidRun block × self .0 ≤ cellsOf block ⌝ }
         ensures { λ r. ⌜ r ≡ toRun run block self ⌝ }
     {
         let shift = block_shift(run, block);
@@ -142,7 +142,7 @@ impl BlockCell {
 impl RunCell {
     // Inner step. The number that a cell of the run has in a block that does not start after it: the block's shift is taken away.
     pub fn in_block(self, run: Run, block: Run) -> BlockCell
-        requires { ⌜ Valid run × IsBlock run block × Valid block × shiftOf run block ≤ self .0 ⌝ }
+        requires { ⌜ ValidRun run × IsBlock run block × ValidRun block × shiftOf run block ≤ self .0 ⌝ }
         ensures { λ r. ⌜ r ≡ toBlock run block self ⌝ }
     {
         let shift = block_shift(run, block);

@@ -10,7 +10,7 @@ use Rattle.scope.specs.Refusal.{sourceTests, weightTests}
 use Rattle.scope.proofs.Judged.{Passes, sound, both, source-passes, no-tests}
 use Rattle.scope.proofs.Limits.{passes-when, passes-first, passes-then, passes-source, valid-source, valid-source-passes}
 use Rattle.sources.specs.Entry.{Entry, entriesOf, entryTests, listTests}
-use Rattle.sources.specs.Lists.{periodsOf, weightsOf, AllValid}
+use Rattle.sources.specs.Lists.{periodsOf, weightsOf, ValidEntries}
 
 -- the entry of a period and a weight
 abbrev pub entry : ℕ → ℕ → Entry
@@ -58,7 +58,7 @@ weights-append (e ∷ a) b = ap (λ l. e .weight ∷ l) (weights-append a b)
 -- ---- their tests
 
 -- the entries that pass their tests are those within the limits
-pub valid-entries : (c k : ℕ) (entries : List Entry) → Passes (listTests c k entries) → AllValid c entries
+pub valid-entries : (c k : ℕ) (entries : List Entry) → Passes (listTests c k entries) → ValidEntries c entries
 unfolding listTests entryTests sourceTests weightTests
 valid-entries c k [] p = tt
 valid-entries c k (e ∷ rest) p =
@@ -68,7 +68,7 @@ valid-entries c k (e ∷ rest) p =
       valid-entries c (suc k) rest (passes-then p),
     )
 
-pub valid-entries-pass : (c k : ℕ) (entries : List Entry) → AllValid c entries → Passes (listTests c k entries)
+pub valid-entries-pass : (c k : ℕ) (entries : List Entry) → ValidEntries c entries → Passes (listTests c k entries)
 unfolding listTests entryTests sourceTests weightTests
 valid-entries-pass c k [] v = no-tests
 valid-entries-pass c k (e ∷ rest) v =

@@ -21,6 +21,6 @@ pub record ValidEntry (ceiling : ℕ) (e : Entry) : Type 0 where
   pub fits : e .weight ≤ ceiling
 
 -- Every entry is within the limits.
-abbrev pub AllValid : ℕ → List Entry → Type 0
-AllValid ceiling [] = Unit {0}
-AllValid ceiling (entry ∷ entries) = ValidEntry ceiling entry × AllValid ceiling entries
+abbrev pub ValidEntries : ℕ → List Entry → Type 0
+ValidEntries ceiling [] = Unit {0}
+ValidEntries ceiling (entry ∷ entries) = ValidEntry ceiling entry × ValidEntries ceiling entries

@@ -6,7 +6,7 @@ ghost use mathlib.Core.Path.{_≡_};
 ghost use lib.ListN.{length};
 ghost use Rattle.sources.specs.Entry.{entriesOf, entryTests, listTests};
 ghost use Rattle.scope.specs.Refusal.{complaint, weightTests};
-ghost use Rattle.scope.specs.Reply.{verdict};
+ghost use Rattle.scope.specs.InnerVerdict.{verdict};
 
 // What 01's table says of a weight.
 fn judge_weight(weight: u32) -> Verdict

@@ -10,7 +10,7 @@ use native.Mathlib.Numerals.{add-one}
 use lib.ListN.{length, take, drop, getD, set, length-set, length-append, length-drop, drop-of-length-le}
 use lib.Seq.{drop-append-seam, take-suc, drop-cons, split-at, take-all, set-at}
 use Rattle.decimal.specs.Digits.{digits, beginsWithDigit}
-use Rattle.decimal.specs.Promises.{NumberStands}
+use Rattle.decimal.specs.Promise.{NumberStands}
 use Rattle.decimal.proofs.Laws.{digits-split}
 use Rattle.decimal.proofs.Readings.{stands}
 use Rattle.scope.specs.declared.Run.{Run}
@@ -25,12 +25,12 @@ behind front {a} {b} e = sym (drop-append-seam front a) ∙ ap (drop (length fro
 
 module _ {text : List ℕ} {at : ℕ} where
   pub spelled-none : Spelled text at [] at
-  spelled-none = record { is = refl; place = sym (add-zero at) }
+  spelled-none = record { is = refl; ends = sym (add-zero at) }
 
   module _ {bytes : List ℕ} {next : ℕ} (s : Spelled text at bytes next) where
     pub spelled-append : {more : List ℕ} {end : ℕ} → Spelled text next more end → Spelled text at (bytes ++ more) end
     spelled-append {more} t =
-        record { is = s .is ∙ rw (t .is) (sym (append-assoc bytes more _)); place = t .place ∙ omega (arith, s .place, length-append bytes more) }
+        record { is = s .is ∙ rw (t .is) (sym (append-assoc bytes more _)); ends = t .ends ∙ omega (arith, s .ends, length-append bytes more) }
 
     -- the text goes on after the bytes as it has to
     pub spelled-forced : {rest : List ℕ} → drop at text ≡ bytes ++ rest → drop next text ≡ rest
@@ -40,7 +40,7 @@ module _ {text : List ℕ} {at : ℕ} where
     pub spelled-within : 0 < length bytes → (at < next) × (next ≤ length text)
     spelled-within h =
         let l = simp (length-append, length-drop) at (ap length (s .is)) in
-        omega (arith, s .place)
+        omega (arith, s .ends)
 
 -- ---- a word, byte after byte
 
@@ -60,7 +60,7 @@ module _ {text : List ℕ} {at : ℕ} {word : List ℕ} {k next : ℕ} (b : Begu
         within = omega arith;
         stands =
             rw (add-one k, take-suc word k 0 h)
-            (spelled-append (b .stands) (record { is = rw (add-one next, ← e) (drop-cons text next 0 t); place = refl }));
+            (spelled-append (b .stands) (record { is = rw (add-one next, ← e) (drop-cons text next 0 t); ends = refl }));
       }
 
   -- what the text has to have there
@@ -89,7 +89,7 @@ hand-on e Says Means says turn = subst Means (sym e) (turn (subst Says e says))
 module _ {text : List ℕ} {at start : ℕ} (s : Spelled text at (32 ∷ []) start) where
   -- the number that stands after a space
   pub field-stands : {v next : ℕ} → NumberStands text start v next → Field text at v next
-  field-stands r = record { small = r .small; stands = spelled-append s (record { is = r .spelled; place = r .place }); ended = r .ended }
+  field-stands r = record { small = r .small; stands = spelled-append s (record { is = r .spelled; ends = r .ends }); ended = r .ended }
 
   -- where none does
   pub field-bad : ((v next : ℕ) → NumberStands text start v next → ⊥) → NoField text at
@@ -269,7 +269,7 @@ module _ {text : List ℕ} {at : ℕ} {word before room : List ℕ} {k next : �
             record {
               numbers = p .numbers;
               next = next;
-              stand = subst (λ a. Numbers text a (p .numbers) next) (p .named .place ∙ sym (s .place)) (p .stand);
+              stand = subst (λ a. Numbers text a (p .numbers) next) (p .named .ends ∙ sym (s .ends)) (p .stand);
               fits = omega (arith, p .counted, p .within);
               ends = λ h. ends (omega (arith, p .counted));
               stores = rw (p .counted) (p .stores);

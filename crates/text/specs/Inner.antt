@@ -23,7 +23,7 @@ NotOfForm n = n ≡ number Text
 -- These bytes stand in the text at `at`, up to `next`.
 pub record Spelled (text : List ℕ) (at : ℕ) (bytes : List ℕ) (next : ℕ) : Type 0 where
   pub is : drop at text ≡ bytes ++ drop next text
-  pub place : next ≡ at + length bytes
+  pub ends : next ≡ at + length bytes
 
 -- This word does not stand there.
 pub record NoWord (text : List ℕ) (at : ℕ) (word : List ℕ) : Type 0 where

@@ -54,7 +54,11 @@ fn try_sealed(ledger: &mut [u64], file: &mut [u8], map: &mut [u8], at: usize) {
     }
     layout::seal(file, at);
     let number = layout::refusal_of_change(file, at, map.len());
-    tally::count(ledger, place_of(at, number), read_says(file, map, number));
+    tally::count(
+        ledger,
+        line_hit_of(at, number),
+        read_says(file, map, number),
+    );
 }
 
 // Reads a file with the byte at a place changed, as it is and with its block sealed again; then undoes the change.
@@ -71,7 +75,7 @@ fn try_byte(ledger: &mut [u64], file: &mut [u8], map: &mut [u8], at: usize, byte
 }
 
 // Where a changed byte is counted: under what it is of, and a number of the run under what is expected of it too.
-fn place_of(at: usize, expected: u8) -> usize {
+fn line_hit_of(at: usize, expected: u8) -> usize {
     if 8 <= at && at < 24 {
         return RUN + expected as usize;
     }

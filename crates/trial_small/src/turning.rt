@@ -5,11 +5,11 @@ use scope::RunCell;
 use scope::Verdict;
 ghost use mathlib.Core.Path.{_≡_};
 ghost use mathlib.Core.Bool.{true};
-ghost use Rattle.scope.specs.Run.{Valid, IsBlock};
+ghost use Rattle.scope.specs.Run.{ValidRun, IsBlock};
 
 // Whether both are within the limits, and the second is a block of the first.
 fn is_block(run: Run, block: Run) -> bool
-    ensures { λ r. ⌜ ((r ≡ true) → (Valid run × IsBlock run block × Valid block)) ⌝ }
+    ensures { λ r. ⌜ ((r ≡ true) → (ValidRun run × IsBlock run block × ValidRun block)) ⌝ }
 {
     if let Verdict::Refused(_) = scope::judge_run(run) {
         return false;

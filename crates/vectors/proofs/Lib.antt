@@ -2,4 +2,4 @@ pub mod Bridge
 pub mod Sequence
 pub mod Found
 pub mod Proposition
-pub mod Theorems
+pub mod Unique

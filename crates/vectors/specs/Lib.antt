@@ -1,3 +1,3 @@
 pub mod Vectors
 pub mod Promise
-pub mod Sequence
+pub mod InnerSequence

@@ -10,7 +10,7 @@ use Rattle.vectors.specs.declared.Basis.the-variants.{Two, One}
 use Rattle.vectors.specs.declared.Steps.{Steps}
 use Rattle.vectors.specs.declared.Steps.the-variants.{Pair, Single, Refused}
 use Rattle.vectors.specs.Vectors.{IsPair, IsSingle, Values, pair, single}
-use Rattle.vectors.specs.Sequence.{vector}
+use Rattle.vectors.specs.InnerSequence.{vector}
 
 -- "Order. Vectors: 1, 4, 5, 6." "5: r ≥ p", "6: I > p".
 unfoldable pub vectorsTests : ℕ → ℕ → ℕ → Tests

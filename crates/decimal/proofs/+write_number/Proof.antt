@@ -43,7 +43,7 @@ module _ (t : ℕ) where
   write-digit-requires-2 c κs =
       let n = c .before .before .before .before .before .before .before .args .n in
       let first = c .before .before .before .write-number in
-      omega (arith, first .ensures .place, first .kept .0, length-more n (c .before .before .before .before .before .if1 .left))
+      omega (arith, first .ensures .ends, first .kept .0, length-more n (c .before .before .before .before .before .if1 .left))
 
   same-length-2 : lts.Need-same-length-2 (calls t) (given t) own.Post
   same-length-2 c = c .before .before .write-digit2 .kept .0 ∙ c .before .before .before .before .before .before .write-number .kept .0

@@ -9,7 +9,7 @@ use Prim.Native.Nat.{ℕ, _/_, _≤_}
 use Rattle.scope.specs.declared.Run.{Run}
 use Rattle.scope.specs.Refusal.{complaint}
 use Rattle.sources.specs.Entry.{Entry, listTests}
-use Rattle.map.specs.Map.{added}
+use Rattle.map.specs.Promise.{added}
 use Rattle.map.specs.Inner.{chosen}
 use Rattle.map.proofs.Entries.{AllBelow, valid-entries, valid-below, chosen-all, added-chosen}
 use Rattle.map.proofs.add_all.Statement.{statement}

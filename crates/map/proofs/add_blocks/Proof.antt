@@ -10,10 +10,10 @@ use Prim.Native.Nat.{ℕ, suc, _+_, _-_, _*_, _≤_, _<_}
 use lib.ListN.{length, take, drop}
 use Rattle.scope.specs.declared.Run.{Run}
 use Rattle.scope.specs.declared.RunCell.{RunCell}
-use Rattle.scope.specs.Run.{Valid, Within, linesOf, cellsOf, shiftOf}
+use Rattle.scope.specs.Run.{ValidRun, UpTo, linesOf, cellsOf, shiftOf}
 use Rattle.scope.proofs.Numbering.{IsBlock, valid-block, shift-next}
 use Rattle.sources.specs.Entry.{Entry, entriesOf}
-use Rattle.map.specs.Map.{weightAt, added}
+use Rattle.map.specs.Promise.{weightAt, added}
 use Rattle.map.specs.Inner.{chosen}
 use Rattle.map.proofs.Raised.{RaisedBelow, starts, patch, ends}
 use Rattle.map.proofs.Entries.{weight-shift}
@@ -23,12 +23,12 @@ use Rattle.map.proofs.add_blocks.Tie as tie
 record Blocks (run : Run) (entries : List Entry) (old map : List ℕ) (first : ℕ) : Type 0 where
   from : run .first ≤ first
   to : first ≤ suc (run .last)
-  small : Within 255 old
+  small : UpTo 255 old
   cells : ℕ
   cells-are : cells ≡ (first - run .first) * run .window
   done : RaisedBelow 255 (weightAt run entries) old cells map
 
-begins : (run : Run) (entries : List Entry) (old : List ℕ) → Valid run → Within 255 old → Blocks run entries old old (run .first)
+begins : (run : Run) (entries : List Entry) (old : List ℕ) → ValidRun run → UpTo 255 old → Blocks run entries old old (run .first)
 begins run entries old v small =
     let none : run .first - run .first ≡ 0 = omega arith in
     record { from = omega arith; to = omega arith; small = small; cells = 0; cells-are = rw none (omega arith); done = starts 255 _ old }
@@ -49,7 +49,7 @@ record Part (run block : Run) (first cells start end : ℕ) : Type 0 where
   start-is : start ≡ 0 + shiftOf run block
   end-is : end ≡ cells + shiftOf run block
 
-module _ {run : Run} {entries : List Entry} {old map : List ℕ} {first : ℕ} (so-far : Blocks run entries old map first) (v : Valid run) (whole : length old ≡ cellsOf run) where
+module _ {run : Run} {entries : List Entry} {old map : List ℕ} {first : ℕ} (so-far : Blocks run entries old map first) (v : ValidRun run) (whole : length old ≡ cellsOf run) where
   part-ends : {block : Run} {cells start end : ℕ} → Part run block first cells start end → end ≤ length map
   part-ends p = let l = so-far .done .as-long in omega (arith, block-room (p .is) (omega arith))
 

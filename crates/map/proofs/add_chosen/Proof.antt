@@ -9,20 +9,20 @@ use mathlib.Core.List.{List, [], _∷_}
 use Prim.Native.Nat.{ℕ, suc, _≤_, _<_, _-_, _+_}
 use lib.ListN.{length, getD, drop, drop-of-length-le}
 use Rattle.scope.specs.declared.Run.{Run}
-use Rattle.scope.specs.Run.{Within}
+use Rattle.scope.specs.Run.{UpTo}
 use Rattle.sources.specs.Entry.{entriesOf}
-use Rattle.map.specs.Map.{added}
+use Rattle.map.specs.Promise.{added}
 use Rattle.map.specs.Inner.{chosen}
-use Rattle.map.proofs.Entries.{entry, entries-from, ValidEntry, AllValid, valid-entries, added-append, added-none, added-length, added-within, chosen-cons, chosen-low, chosen-high}
+use Rattle.map.proofs.Entries.{entry, entries-from, ValidEntry, ValidEntries, valid-entries, added-append, added-none, added-length, added-within, chosen-cons, chosen-low, chosen-high}
 use Rattle.map.proofs.add_chosen.Statement.{statement}
 use Rattle.map.proofs.add_chosen.Tie as tie
 
 record Left (run : Run) (periods weights : List ℕ) (low high : ℕ) (map₀ map : List ℕ) (k : ℕ) : Type 0 where
   equal : length periods ≡ length weights
   within : k ≤ length periods
-  valid : AllValid 255 (entriesOf (drop k periods) (drop k weights))
+  valid : ValidEntries 255 (entriesOf (drop k periods) (drop k weights))
   as-long : length map ≡ length map₀
-  small : Within 255 map
+  small : UpTo 255 map
   same : added 255 run (chosen low high (entriesOf (drop k periods) (drop k weights))) map ≡ added 255 run (chosen low high (entriesOf periods weights)) map₀
 
 module _ {run : Run} {periods weights : List ℕ} {low high : ℕ} {map₀ map : List ℕ} {k : ℕ} (left : Left run periods weights low high map₀ map k) where

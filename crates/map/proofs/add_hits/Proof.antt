@@ -9,7 +9,7 @@ use denote.Ref.{now}
 use Rattle.scope.specs.declared.Run.{Run}
 use Rattle.scope.specs.declared.Source.{Source}
 use Rattle.scope.proofs.Limits.{window-cells}
-use Rattle.map.specs.Map.{added}
+use Rattle.map.specs.Promise.{added}
 use Rattle.map.proofs.Raised.{ends}
 use Rattle.map.proofs.Walked.{Begun, Walked, walk-starts, walk-rises, walk-on, walking}
 use Rattle.map.proofs.add_hits.Statement.{statement}
@@ -25,7 +25,7 @@ abbrev μ-loop : tie.MeasureT-loop
 μ-loop weight map₀ walk at₀ cell₀ map at cell = length map₀ - cell
 
 -- where the loop begins
-begun : (c : tie.After-place-of Inv-loop μ-loop) → Begun (c .before .before .before .before .args .run) (c .before .before .before .before .args .source) (c .before .before .plan .result) (now (c .before .before .before .before .args .map))
+begun : (c : tie.After-line-hit-of Inv-loop μ-loop) → Begun (c .before .before .before .before .args .run) (c .before .before .before .before .args .source) (c .before .before .plan .result) (now (c .before .before .before .before .args .map))
 begun c =
     let p = c .before .before .before .before .pre in
     record {
@@ -39,7 +39,7 @@ begun c =
 
 -- where it stands, at the test
 here : (c : tie.At-loop Inv-loop μ-loop) → Walked (c .before .before .before .before .before .args .run) (c .before .before .before .before .before .args .source) (c .before .before .before .before .before .args .weight) (now (c .before .before .before .before .before .args .map)) (c .loop .map) (c .loop .at)
-here c = c .loop .inv .2 _ _ (begun (c .before)) (walk-starts (begun (c .before)) _ (c .before .before .find-hit .ensures) (c .before .place-of .ensures))
+here c = c .loop .inv .2 _ _ (begun (c .before)) (walk-starts (begun (c .before)) _ (c .before .before .find-hit .ensures) (c .before .line-hit-of .ensures))
 
 plan-requires : tie.Need-plan-requires Inv-loop μ-loop
 plan-requires c κs = (c .before .pre .0, c .before .pre .1)
@@ -47,8 +47,8 @@ plan-requires c κs = (c .before .pre .0, c .before .pre .1)
 find-hit-requires : tie.Need-find-hit-requires Inv-loop μ-loop
 find-hit-requires c κs = let p = c .before .before .pre in (p .0, p .1, omega (arith, window-cells (p .0)))
 
-place-of-requires : tie.Need-place-of-requires Inv-loop μ-loop
-place-of-requires c κs = let p = c .before .before .before .pre in (p .0, p .1, c .find-hit .ensures .to)
+line-hit-of-requires : tie.Need-line-hit-of-requires Inv-loop μ-loop
+line-hit-of-requires c κs = let p = c .before .before .before .pre in (p .0, p .1, c .find-hit .ensures .to)
 
 loop-holds : tie.Need-loop-holds Inv-loop μ-loop
 loop-holds c = (refl, refl, λ run source b w. w)
@@ -95,7 +95,7 @@ add-hits-spec =
     μ-loop
     plan-requires
     find-hit-requires
-    place-of-requires
+    line-hit-of-requires
     loop-holds
     slice-read-plus
     plus-requires

@@ -8,7 +8,7 @@ use Prim.Native.Nat.{_+_, _-_, _*_}
 use lib.ListN.{length}
 use Rattle.scope.specs.Run.{cellsOf, linesOf}
 use Rattle.scope.proofs.Hits.{origin}
-use Rattle.map.specs.Map.{added}
+use Rattle.map.specs.Promise.{added}
 use Rattle.map.proofs.Raised.{ends, raised-move}
 use Rattle.map.proofs.Rows.{Rows, rows-start, line-left, start-below, next-row, wraps, row-gain}
 use Rattle.map.proofs.add_rows.Statement.{statement}

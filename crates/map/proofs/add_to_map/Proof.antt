@@ -8,8 +8,8 @@ use mathlib.Core.Bool.{not}
 use Rattle.scope.specs.Refusal.{number}
 use Rattle.scope.proofs.Judged.{broken, sound, first, then, both, fine, blamed}
 use Rattle.scope.proofs.Limits.{valid-run}
-use Rattle.map.specs.Map.{mapTests}
-use Rattle.map.proofs.Promise.{refused-call, granted-call}
+use Rattle.map.specs.Promise.{mapTests}
+use Rattle.map.proofs.Unique.{refused-call, granted-call}
 use Rattle.map.proofs.add_to_map.Statement.{statement}
 use Rattle.map.proofs.add_to_map.Tie as tie
 

@@ -8,9 +8,10 @@ use mathlib.Core.Bool.{not}
 use mathlib.Core.List.{List}
 use lib.Dec.{eqb}
 use lib.ListN.{length}
-use Rattle.scope.specs.Run.{Valid, cellsOf}
+use Rattle.scope.specs.Run.{ValidRun, cellsOf}
 use Rattle.scope.specs.Refusal.{Tests, _when_, _andThen_, Blocks, number, complaint, runTests}
-use Rattle.scope.specs.Reply.{answered, verdict}
+use Rattle.scope.specs.Reply.{answered}
+use Rattle.scope.specs.InnerVerdict.{verdict}
 use Rattle.scope.proofs.Judged.{Passes, broken, sound, first, then, both, fine, blamed, refuse-reply, grant-reply}
 use Rattle.scope.proofs.Limits.{valid-run, cells-few}
 use Rattle.saved.specs.File.{blocksFor, fileLength, blockAt, runOf, headingTests, cellBlocksTests, fileTests}
@@ -45,7 +46,7 @@ run-judged c = rw (c .before .run-of .ensures) at (c .judge-run .ensures)
 limited : (c : tie.After-enum-told2) → Passes (toRun (c .before .before .before .before .before .before .before .before .before .before .before .args .file .now))
 limited c = both (headed (c .before .before .before .before)) (fine (run-judged (c .before .before)) (c .enum-told2 .given .1))
 
-valid : (c : tie.After-enum-told2) → Valid (c .before .before .before .run-of .result)
+valid : (c : tie.After-enum-told2) → ValidRun (c .before .before .before .run-of .result)
 valid c = valid-run (fine (c .before .before .judge-run .ensures) (c .enum-told2 .given .1)) (omega (arith, c .before .before .before .run-of .ok))
 
 -- how long the file is to be, and how many cells it is to hold

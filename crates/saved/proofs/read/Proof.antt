@@ -3,7 +3,7 @@ use borrow.Author.Needs.{needs}
 use native.Mathlib.Omega.{arith}
 use mathlib.Core.Path.{_≡_, refl, sym, ap, _∙_}
 use lib.ListN.{take}
-use Rattle.scope.specs.Run.{Valid, cellsOf}
+use Rattle.scope.specs.Run.{ValidRun, cellsOf}
 use Rattle.scope.specs.Refusal.{number}
 use Rattle.scope.proofs.Judged.{Passes, broken, sound, first, then, both, said-answered, said-refused}
 use Rattle.scope.proofs.Limits.{valid-run, cells-few}
@@ -18,7 +18,7 @@ use Rattle.saved.proofs.read.Tie as tie
 told : (c : tie.After-known-told2) → Passes (fileTests (c .before .before .before .before .before .before .args .file .now)) × (c .before .run .given .0 .0 ≡ runOf (c .before .before .before .before .before .before .args .file .now))
 told c = said-answered _ (ap saysReading (sym (c .before .run .given .1)) ∙ c .before .before .before .judge-file .ensures)
 
-valid : (c : tie.After-known-told2) → Valid (c .before .run .given .0 .0)
+valid : (c : tie.After-known-told2) → ValidRun (c .before .run .given .0 .0)
 valid c = valid-run (rw (← told c .1) at (accepted (told c .0) .limited)) (omega (arith, c .known-told2 .given))
 
 -- the room is that of the run

@@ -8,7 +8,7 @@ use mathlib.Core.Path.{_≡_, refl, sym, ap, _∙_}
 use lib.ListN.{length}
 use borrow.Rule.Slice.PartMut.{putMid, midOf, mid-len}
 use Rattle.scope.specs.declared.Run.{Run}
-use Rattle.scope.specs.Run.{Valid, cellsOf}
+use Rattle.scope.specs.Run.{ValidRun, cellsOf}
 use Rattle.scope.specs.Refusal.{number, runTests}
 use Rattle.scope.proofs.Judged.{Passes, broken, sound, first, then, both, fine, blamed}
 use Rattle.scope.proofs.Limits.{valid-run, cells-few}
@@ -26,7 +26,7 @@ use Rattle.saved.proofs.save.Tie as tie
 passes : (c : tie.After-enum-told) → Passes (runTests (c .before .before .before .before .before .args .run))
 passes c = fine (c .before .before .judge-run .ensures) (c .enum-told .given .1)
 
-valid : (c : tie.After-enum-told) → Valid (c .before .before .before .before .before .args .run)
+valid : (c : tie.After-enum-told) → ValidRun (c .before .before .before .before .before .args .run)
 valid c = valid-run (passes c) (omega (arith, c .before .before .before .before .before .good .0))
 
 -- every test is passed

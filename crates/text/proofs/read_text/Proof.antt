@@ -9,7 +9,7 @@ use lib.ListN.{length, take, replicate}
 use lib.Seq.{length-take-le}
 use Rattle.scope.specs.Run.{cellsOf}
 use Rattle.scope.specs.Refusal.{_when_, _andThen_, TooMany, complaint, number, runTests}
-use Rattle.scope.specs.Reply.{verdict}
+use Rattle.scope.specs.InnerVerdict.{verdict}
 use Rattle.scope.proofs.Judged.{Passes, Fails, broken, sound, first, then, both, fine, blamed}
 use Rattle.scope.proofs.Limits.{passes-when, passes-first, passes-then, valid-run}
 use Rattle.sources.specs.Entry.{entriesOf, listTests}

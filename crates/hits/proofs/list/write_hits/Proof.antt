@@ -18,7 +18,7 @@ use Rattle.scope.specs.declared.Run.{Run}
 use Rattle.scope.specs.declared.Source.{Source}
 use Rattle.scope.specs.Run.{offsetOf}
 use Rattle.scope.proofs.Limits.{cells-few}
-use Rattle.hits.specs.declared.walk.Place.{Place}
+use Rattle.hits.specs.declared.walk.LineHit.{LineHit}
 use Rattle.hits.proofs.Walks.{fits-at}
 use Rattle.hits.proofs.Kept.{kept-start}
 use Rattle.hits.proofs.Lines.{Fixed, Head, Inside, enter, within, beyond, walking, cell-in, offset-fits, write, leave, Ended, ran-out, filled, says-more, says-done, gets-on}
@@ -27,7 +27,7 @@ use Rattle.hits.proofs.list.write_hits.Tie as tie
 
 abbrev Inv-loop : tie.InvT-loop
 Inv-loop room₀ all window period end walk cell₀ offset₀ next₀ n₀ to room cell offset next n =
-    (next ≡ next₀) × ((run : Run) (source : Source) (start : ℕ) (before : List ℕ) (at : Place) → Fixed run source all period end walk → Inside run source start before room₀ n₀ cell₀ offset₀ at → Inside run source start before room n cell offset at)
+    (next ≡ next₀) × ((run : Run) (source : Source) (start : ℕ) (before : List ℕ) (at : LineHit) → Fixed run source all period end walk → Inside run source start before room₀ n₀ cell₀ offset₀ at → Inside run source start before room n cell offset at)
 
 abbrev μ-loop : tie.MeasureT-loop
 μ-loop room₀ all window period end walk cell₀ offset₀ next₀ n₀ to room cell offset next n = all - cell
@@ -44,7 +44,7 @@ abbrev μ-lines : tie.MeasureT-lines
 room-small : (c : tie.Start Inv-loop μ-loop Inv-lines μ-lines) → length (c .args .room .now) * 8 < 2 ^ 63
 room-small c = c .good .1 .1 .1 .0 .1
 
-fixed : (c : tie.After-place-of Inv-loop μ-loop Inv-lines μ-lines) → let k = c .before .before .before .before .before in let a = k .before .before .args in Fixed (a .run) (a .source) (k .cells .result) (a .source .period) (ofZ w64 (c .before .before .before .before .offset-at .result)) (c .before .before .before .plan .result)
+fixed : (c : tie.After-line-hit-of Inv-loop μ-loop Inv-lines μ-lines) → let k = c .before .before .before .before .before in let a = k .before .before .args in Fixed (a .run) (a .source) (k .cells .result) (a .source .period) (ofZ w64 (c .before .before .before .before .offset-at .result)) (c .before .before .before .plan .result)
 fixed c =
     let k = c .before .before .before .before .before in
     let s = k .before .before in
@@ -59,7 +59,7 @@ fixed c =
       leads = c .before .before .before .plan .ensures;
     }
 
-begun : (c : tie.After-place-of Inv-loop μ-loop Inv-lines μ-lines) → let a = c .before .before .before .before .before .before .before .args in Head (a .run) (a .source) (a .start .0) (a .room .now) (a .room .now) 0 (c .before .before .find-hit .result .0) (ofZ w64 (c .before .offset-at2 .result)) (c .place-of .result)
+begun : (c : tie.After-line-hit-of Inv-loop μ-loop Inv-lines μ-lines) → let a = c .before .before .before .before .before .before .before .args in Head (a .run) (a .source) (a .start .0) (a .room .now) (a .room .now) 0 (c .before .before .find-hit .result .0) (ofZ w64 (c .before .offset-at2 .result)) (c .line-hit-of .result)
 unfolding offsetOf
 begun c =
     let f = c .before .before in
@@ -71,8 +71,8 @@ begun c =
     record {
       kept = kept-start (f .find-hit .ensures);
       running = λ h. record {
-        stands = c .place-of .ensures .stands (f .find-hit .ensures .hit h);
-        line = c .place-of .ensures .line;
+        stands = c .line-hit-of .ensures .stands (f .find-hit .ensures .hit h);
+        line = c .line-hit-of .ensures .line;
         hit = f .find-hit .ensures .hit h;
         offset-is = toZ-ofZ (fits-at (f .find-hit .result .0 % s .args .run .window) (s .args .run .window / 2) e (omega arith) (omega arith)) ∙ e;
       };
@@ -139,8 +139,8 @@ offset-at-requires-2 c κs =
     let some = s .pre .0 .narrow in
     (omega (arith, mod-lt (c .find-hit .result .0) {m = s .args .run .window} (omega arith)), w)
 
-place-of-requires : tie.Need-place-of-requires Inv-loop μ-loop Inv-lines μ-lines
-place-of-requires c κs = let s = c .before .before .before .before .before .before in (s .pre .0, s .pre .1, c .before .find-hit .ensures .to)
+line-hit-of-requires : tie.Need-line-hit-of-requires Inv-loop μ-loop Inv-lines μ-lines
+line-hit-of-requires c κs = let s = c .before .before .before .before .before .before in (s .pre .0, s .pre .1, c .before .find-hit .ensures .to)
 
 lines-holds : tie.Need-lines-holds Inv-loop μ-loop Inv-lines μ-lines
 lines-holds c = (refl, λ run source start f h. h)
@@ -246,7 +246,7 @@ write-hits-spec =
     cast-offset-at-2
     rem-offset-at
     offset-at-requires-2
-    place-of-requires
+    line-hit-of-requires
     lines-holds
     next-requires
     loop-holds

@@ -4,8 +4,8 @@ use Prim.Native.Nat.{_+_, _-_, _*_, _%_}
 use native.Mathlib.Omega.{arith}
 use mathlib.Core.Path.{subst}
 use Rattle.scope.proofs.Limits.{cells-few}
-use Rattle.vectors.specs.Sequence.{Successive}
-use Rattle.hits.specs.Search.{Enters, FirstFrom, Sought}
+use Rattle.vectors.specs.InnerSequence.{Successive}
+use Rattle.hits.specs.InnerSearch.{Enters, FirstFrom, Sought}
 use Rattle.hits.proofs.Cells.{distance-low, begin-divides, begin-seeking, sought-cell, sought-none}
 use Rattle.hits.proofs.search.find_from_line.Statement.{statement}
 use Rattle.hits.proofs.search.find_from_line.Tie as tie

@@ -7,12 +7,12 @@ use mir.Syntax.{w64}
 use mir.Val.{toZ, ofZ}
 use mir.Facts.{toZ-ofZ}
 use Rattle.vectors.specs.declared.Vector.{Vector}
-use Rattle.vectors.specs.Sequence.{Successive}
+use Rattle.vectors.specs.InnerSequence.{Successive}
 use Rattle.vectors.proofs.Sequence.{onward, falls, some-size}
 use Rattle.hits.specs.declared.search.Point.{Point}
 use Rattle.hits.specs.declared.search.Found.{Found}
 use Rattle.hits.specs.declared.search.Found.the-variants.{At, Nothing}
-use Rattle.hits.specs.Search.{Seeking, Sought}
+use Rattle.hits.specs.InnerSearch.{Seeking, Sought}
 use Rattle.hits.proofs.Descent.{goes, fits-last, approaching, seeking, sought-past, sought-here, sought-never, sought-on}
 use Rattle.hits.proofs.search.seek.Statement.{statement}
 use Rattle.hits.proofs.search.seek.Tie as tie

@@ -5,7 +5,7 @@ use Prim.Native.Nat.{_%_}
 use mathlib.Core.Path.{subst}
 use Rattle.vectors.specs.Promise.{Spans}
 use Rattle.vectors.specs.Vectors.{IsPair, IsSingle}
-use Rattle.hits.specs.Walk.{width}
+use Rattle.hits.specs.InnerWalk.{width}
 use Rattle.hits.proofs.Plans.{askable, left-small, right-small, pair-leads, single-small, single-leads}
 use Rattle.hits.proofs.walk.plan.Statement.{statement}
 use Rattle.hits.proofs.walk.plan.Tie as tie

@@ -10,7 +10,7 @@ use mir.Val.{SFits}
 use mir.Facts.{toZ-ofZ, toZ-pos, fits-natAbs}
 use Rattle.signed.proofs.Parts.{parts, sum, apart, neg-up, neg-dn, abs-parts}
 use Rattle.vectors.specs.declared.Vector.{Vector}
-use Rattle.hits.specs.Walk.{Short}
+use Rattle.hits.specs.InnerWalk.{Short}
 use Rattle.hits.proofs.walk.step_of.Statement.{statement}
 use Rattle.hits.proofs.walk.step_of.Tie as tie
 

@@ -11,7 +11,7 @@ use mir.Val.{SFits}
 use mir.Facts.{toZ-ofZ}
 use Rattle.signed.proofs.Parts.{parts, sum, apart, neg-up, neg-dn}
 use Rattle.vectors.specs.declared.Vector.{Vector}
-use Rattle.hits.specs.Walk.{Short}
+use Rattle.hits.specs.InnerWalk.{Short}
 use Rattle.hits.proofs.Walks.{near, near-fits}
 use Rattle.hits.proofs.walk.walk_by.Statement.{statement}
 use Rattle.hits.proofs.walk.walk_by.Tie as tie

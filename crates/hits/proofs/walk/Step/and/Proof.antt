@@ -3,7 +3,7 @@ use borrow.Author.Needs.{needs}
 use mathlib.Core.Path.{refl}
 use mir.Facts.{toZ-ofZ}
 use Rattle.hits.specs.declared.walk.Step.{Step}
-use Rattle.hits.specs.Walk.{Joinable}
+use Rattle.hits.specs.InnerWalk.{Joinable}
 use Rattle.hits.proofs.Walks.{Sums, sums, wider}
 use Rattle.hits.proofs.walk.Step.and.Statement.{statement}
 use Rattle.hits.proofs.walk.Step.and.Tie as tie

@@ -8,7 +8,7 @@ use Rattle.scope.proofs.Judged.{Fails, Passes, refuse-reply, refuse-stored, gra
 use Rattle.map.specs.declared.Added.{Added}
 use Rattle.map.specs.declared.Added.the-variants.{Done, Refused}
 use Rattle.sources.specs.Entry.{entriesOf}
-use Rattle.map.specs.Map.{mapTests, added, saysMap, MapPromise}
+use Rattle.map.specs.Promise.{mapTests, added, saysMap, MapPromise}
 
 module _ {run : Run} {periods weights map : List ℕ} where
   pub refused-call : {n : ℕ} → Fails (mapTests 255 run periods weights map) n → MapPromise run periods weights map (Refused n) map

@@ -7,11 +7,11 @@ use lib.Signed.{_≤ℤ_}
 use Rattle.lattice.proofs.First.{Next}
 use Rattle.scope.specs.declared.Run.{Run}
 use Rattle.scope.specs.declared.Source.{Source}
-use Rattle.scope.specs.Run.{Valid, ValidSource, cellsOf, lineOf, offsetOf}
+use Rattle.scope.specs.Run.{ValidRun, ValidSource, cellsOf, lineOf, offsetOf}
 use Rattle.scope.specs.Hit.{isHit}
 use Rattle.vectors.specs.declared.Vector.{Vector}
 use Rattle.hits.specs.declared.walk.Step.{Step}
-use Rattle.hits.specs.declared.walk.Place.{Place}
+use Rattle.hits.specs.declared.walk.LineHit.{LineHit}
 use Rattle.hits.specs.declared.walk.Walk.{Walk}
 
 -- A vector that is short enough to be a step: it leads on, and its offset is no more than the window's width.
@@ -43,7 +43,7 @@ pub record GoesBy (left right : Vector) (window width : ℕ) (walk : Walk) : Typ
   pub high : walk .high ≡ (pos width -ℤ pos (window / 2)) -ℤ right .offset
 
 -- A place and a step whose sums stay far from the ends of the numbers.
-pub record Movable (at : Place) (step : Step) : Type 0 where
+pub record Movable (at : LineHit) (step : Step) : Type 0 where
   pub offset-low : negℤ (pos 4096) ≤ℤ at .offset
   pub offset-high : at .offset ≤ℤ pos 4096
   pub step-low : negℤ (pos 8192) ≤ℤ step .offset
@@ -52,7 +52,7 @@ pub record Movable (at : Place) (step : Step) : Type 0 where
   pub cells : step .cells ≤ 2 ^ 44
 
 -- The place `to` is the place `at` a step on.
-pub record Moved (at : Place) (step : Step) (to : Place) : Type 0 where
+pub record Moved (at : LineHit) (step : Step) (to : LineHit) : Type 0 where
   pub offset : to .offset ≡ at .offset +ℤ step .offset
   pub cell : to .cell .0 ≡ at .cell .0 + step .cells
 
@@ -88,33 +88,33 @@ pub record Leads (run : Run) (source : Source) (walk : Walk) : Type 0 where
   pub goes-both : (d : ℕ) → d < width run source → d < from → below ≤ d → (A ≤ d + C) × Next (source .period) (run .interval % source .period) (width run source) d (β + δ) (d + C - A)
 
 -- The place is the first hit of its line.
-pub record Stands (run : Run) (source : Source) (at : Place) : Type 0 where
+pub record Stands (run : Run) (source : Source) (at : LineHit) : Type 0 where
   pub hit : isHit run source (at .cell .0) ≡ true
   pub leftmost : at .cell .0 % run .window < source .period
   pub offset : at .offset ≡ offsetOf run (at .cell .0)
 
 -- A walk of some source over some run, at the first hit of a line of it.
-pub record Walking (walk : Walk) (at : Place) : Type 0 where
+pub record Walking (walk : Walk) (at : LineHit) : Type 0 where
   pub run : Run
   pub source : Source
-  pub valid : Valid run
+  pub valid : ValidRun run
   pub source-valid : ValidSource source
   pub leads : Leads run source walk
   pub stands : Stands run source at
   pub inside : at .cell .0 < cellsOf run
 
 -- The place `to` is the first hit of the next line after `at` that has one.
-pub record NextLine (run : Run) (source : Source) (at to : Place) : Type 0 where
+pub record NextLine (run : Run) (source : Source) (at to : LineHit) : Type 0 where
   pub stands : Stands run source to
   pub later : lineOf run (at .cell .0) < lineOf run (to .cell .0)
   pub rises : at .cell .0 < to .cell .0
   pub none : (z : ℕ) → lineOf run (at .cell .0) < lineOf run z → z < to .cell .0 → isHit run source z ≡ false
 
 -- The same, for every run and source that the walk is for.
-abbrev pub Walks : Walk → Place → Place → Type 0
-Walks walk at to = (run : Run) (source : Source) → Valid run → ValidSource source → Leads run source walk → Stands run source at → NextLine run source at to
+abbrev pub Walks : Walk → LineHit → LineHit → Type 0
+Walks walk at to = (run : Run) (source : Source) → ValidRun run → ValidSource source → Leads run source walk → Stands run source at → NextLine run source at to
 
 -- The place is on the cell's line, and where the cell is hit it is that of the first hit there.
-pub record Begins (run : Run) (source : Source) (cell : ℕ) (at : Place) : Type 0 where
+pub record Begins (run : Run) (source : Source) (cell : ℕ) (at : LineHit) : Type 0 where
   pub line : at .cell .0 / run .window ≡ cell / run .window
   pub stands : isHit run source cell ≡ true → Stands run source at

@@ -1,15 +1,15 @@
--- `hits::walk::Place::moved` meets its contract: the sums are small. Assumes nothing.
+-- `hits::walk::LineHit::moved` meets its contract: the sums are small. Assumes nothing.
 use borrow.Author.Needs.{needs}
 use mathlib.Core.Path.{refl}
 use mir.Facts.{toZ-ofZ}
 use Rattle.hits.specs.declared.walk.Step.{Step}
-use Rattle.hits.specs.declared.walk.Place.{Place}
-use Rattle.hits.specs.Walk.{Movable}
+use Rattle.hits.specs.declared.walk.LineHit.{LineHit}
+use Rattle.hits.specs.InnerWalk.{Movable}
 use Rattle.hits.proofs.Walks.{Sums, sums}
-use Rattle.hits.proofs.walk.Place.moved.Statement.{statement}
-use Rattle.hits.proofs.walk.Place.moved.Tie as tie
+use Rattle.hits.proofs.walk.LineHit.moved.Statement.{statement}
+use Rattle.hits.proofs.walk.LineHit.moved.Tie as tie
 
-held : {at : Place} {step : Step} → Movable at step → Sums (at .offset) (step .offset)
+held : {at : LineHit} {step : Step} → Movable at step → Sums (at .offset) (step .offset)
 held {at} {step} h = sums (at .offset) (step .offset) (h .offset-low, h .offset-high) (h .step-low, h .step-high)
 
 add-t3 : tie.Need-add-t3

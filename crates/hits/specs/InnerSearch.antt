@@ -10,7 +10,7 @@ use Rattle.scope.specs.declared.Source.{Source}
 use Rattle.scope.specs.Run.{cellsOf}
 use Rattle.scope.specs.Hit.{isHit}
 use Rattle.vectors.specs.declared.Vector.{Vector}
-use Rattle.vectors.specs.Sequence.{Successive}
+use Rattle.vectors.specs.InnerSequence.{Successive}
 use Rattle.hits.specs.declared.search.Point.{Point}
 use Rattle.hits.specs.declared.search.Found.{Found}
 use Rattle.hits.specs.declared.search.Found.the-variants.{At, Nothing}

@@ -1,4 +1,4 @@
--- `hits::walk::place_of` meets its contract. Assumes nothing.
+-- `hits::walk::line_hit_of` meets its contract. Assumes nothing.
 use borrow.Author.Needs.{needs}
 use native.Mathlib.Omega.{arith}
 use native.Mathlib.Nat.{mod-le}
@@ -8,8 +8,8 @@ use mir.Facts.{toZ-ofZ}
 use Rattle.scope.proofs.Limits.{cells-few}
 use Rattle.hits.proofs.Walks.{fits-at}
 use Rattle.hits.proofs.Plans.{leading, leads-in, begins}
-use Rattle.hits.proofs.walk.place_of.Statement.{statement}
-use Rattle.hits.proofs.walk.place_of.Tie as tie
+use Rattle.hits.proofs.walk.line_hit_of.Statement.{statement}
+use Rattle.hits.proofs.walk.line_hit_of.Tie as tie
 
 cast-from : tie.Need-cast-from
 cast-from c = search needs
@@ -46,7 +46,7 @@ returns c =
     let w = s .pre .0 .wide in
     begins (s .pre .0) (s .pre .1) (s .args .cell .0) (toZ-ofZ (fits-at (leading (s .pre .0) (s .pre .1) (s .args .cell .0)) (s .args .run .window / 2) (c .before .offset-at .ensures) (omega arith) (omega arith)) ∙ c .before .offset-at .ensures)
 
-pub place-of-spec : {M : Type 1} → statement M
-place-of-spec =
+pub line-hit-of-spec : {M : Type 1} → statement M
+line-hit-of-spec =
     tie.close
     (tie.spec cast-from rem-from cast-first rem-first offset-at-requires sub-t6 add-t8 returns)
