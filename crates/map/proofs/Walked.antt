@@ -15,10 +15,10 @@ use Rattle.scope.specs.Hit.{isHit}
 use Rattle.sources.specs.Entry.{Entry}
 use Rattle.scope.proofs.Numbering.{cell-order}
 use Rattle.scope.proofs.Hits.{hit-or-miss, one-hit-on-line}
-use Rattle.hits.specs.declared.walk.Walk.{Walk}
-use Rattle.hits.specs.declared.walk.LineHit.{LineHit}
-use Rattle.hits.specs.InnerSearch.{FirstFrom}
-use Rattle.hits.specs.InnerWalk.{Leads, Stands, Walking, NextLine, Walks, Begins}
+use Rattle.walk.specs.declared.Walk.{Walk}
+use Rattle.walk.specs.declared.LineHit.{LineHit}
+use Rattle.search.specs.InnerSearch.{FirstFrom}
+use Rattle.walk.specs.InnerWalk.{Leads, Stands, Walking, NextLine, Walks, Begins}
 use Rattle.map.specs.Sum.{capped}
 use Rattle.map.specs.Promise.{weightAt}
 use Rattle.map.proofs.Raised.{RaisedBelow, starts, over, past, store}

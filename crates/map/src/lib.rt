@@ -65,7 +65,7 @@ fn add_rows(run: Run, source: Source, weight: u8, map: &mut [u8])
     let window = run.window as usize;
     let period = source.period as usize;
     let step = run.interval as usize % period;
-    let mut start = hits::search::distance(run, source, run.first as u64) as usize;
+    let mut start = search::distance(run, source, run.first as u64) as usize;
     let mut base: usize = 0;
     while base < map.len() {
         add_line(&mut map[base..base + window], start, period, weight);
@@ -83,9 +83,9 @@ fn add_hits(run: Run, source: Source, weight: u8, map: &mut [u8])
     requires { ⌜ ValidRun run × ValidSource source × (run .window ≤ source .period) × (length (now map) ≡ cellsOf run) ⌝ }
     ensures { λ _. ⌜ now (map .exit) ≡ added ceiling run (record { source = source; weight = weight } ∷ []) (now (map .entry)) ⌝ }
 {
-    let walk = hits::walk::plan(run, source);
-    let first = hits::search::find_hit(run, source, RunCell(0));
-    let mut at = hits::walk::line_hit_of(run, source, first);
+    let walk = walk::plan(run, source);
+    let first = search::find_hit(run, source, RunCell(0));
+    let mut at = walk::line_hit_of(run, source, first);
     let mut cell = at.cell.0 as usize;
     while cell < map.len() {
         map[cell] = plus(map[cell], weight);
