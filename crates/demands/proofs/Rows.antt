@@ -13,7 +13,7 @@ use borrow.Author.Tests.{ltb-true, lt-ltb, leb-true, le-leb, eqb-true, eq-eqb, e
 use Rattle.scope.specs.declared.Run.{Run}
 use Rattle.scope.specs.declared.Source.{Source}
 use Rattle.scope.specs.declared.RunCell.{RunCell}
-use Rattle.scope.specs.Run.{cellsOf}
+use Rattle.scope.specs.Run.{ceiling, cellsOf}
 use Rattle.scope.specs.Refusal.{number, windowTests, lineTests, runTests, periodTests, sourceTests, weightTests}
 use Rattle.sources.specs.Entry.{Entry, entriesOf, entryTests, listTests}
 use Rattle.vectors.specs.Promise.{vectorsTests}
@@ -103,11 +103,11 @@ period-row : (period : ℕ) → Renders (periodTests period) (4 given BadPeriod 
 unfolding periodTests number
 period-row period = either (one (equal period 0)) (one (below 2147483647 period))
 
-weight-row : (weight : ℕ) → Renders (weightTests 255 weight) (7 given BadWeight weight ∷ [])
+weight-row : (weight : ℕ) → Renders (weightTests ceiling weight) (7 given BadWeight weight ∷ [])
 unfolding weightTests number
-weight-row weight = either (one (equal weight 0)) (one (below 255 weight))
+weight-row weight = either (one (equal weight 0)) (one (below ceiling weight))
 
-sources-rows : (k : ℕ) (entries : List Entry) → Renders (listTests 255 k entries) (sourcesTable entries)
+sources-rows : (k : ℕ) (entries : List Entry) → Renders (listTests ceiling k entries) (sourcesTable entries)
 unfolding listTests entryTests
 sources-rows k [] = no-rows
 sources-rows k (entry ∷ entries) = of-source (period-row (entry .source .period) next weight-row (entry .weight)) next sources-rows (suc k) entries
@@ -130,7 +130,7 @@ unfolding listingTests number
 listing-rows run source start room = first-hit-rows run source start next one (equal (length room) 0)
 
 -- "Map: 1, 2, 3, 10, then source by source 4 before 7, then 9."
-pub map-rows : (run : Run) (periods weights map : List ℕ) → Renders (mapTests 255 run periods weights map) (mapTable run periods weights map)
+pub map-rows : (run : Run) (periods weights map : List ℕ) → Renders (mapTests ceiling run periods weights map) (mapTable run periods weights map)
 unfolding mapTests number
 map-rows run periods weights map =
     run-rows run next

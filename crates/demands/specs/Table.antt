@@ -8,7 +8,7 @@ use lib.ListN.{length, getD}
 use Rattle.scope.specs.declared.Run.{Run}
 use Rattle.scope.specs.declared.Source.{Source}
 use Rattle.scope.specs.declared.RunCell.{RunCell}
-use Rattle.scope.specs.Run.{cellsOf}
+use Rattle.scope.specs.Run.{ceiling, cellsOf}
 use Rattle.sources.specs.Entry.{Entry, entriesOf}
 use Rattle.blocks.specs.Block.{fourAt, checkOf}
 use Rattle.saved.specs.File.{blockAt, runOf, blocksFor, fileLength}
@@ -49,7 +49,7 @@ BadPeriod period = (period ≡ 0) ⊎ (2147483647 < period)
 
 -- "7: weight 0 or above 255".
 abbrev pub BadWeight : ℕ → Type 0
-BadWeight weight = (weight ≡ 0) ⊎ (255 < weight)
+BadWeight weight = (weight ≡ 0) ⊎ (ceiling < weight)
 
 -- "Order. Vectors: 1, 4, 5, 6."
 abbrev pub vectorsTable : ℕ → ℕ → ℕ → List Row
