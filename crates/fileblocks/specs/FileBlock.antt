@@ -32,8 +32,8 @@ unfoldable pub sealed : List ℕ → List ℕ
 sealed bytes = bytes ++ four (checkOf bytes)
 
 -- "Bytes 0-3: block number": the block with number k that holds these bytes.
-unfoldable pub blockOf : ℕ → List ℕ → List ℕ
-blockOf k bytes = sealed (four k ++ filled bytes)
+unfoldable pub fileBlockOf : ℕ → List ℕ → List ℕ
+fileBlockOf k bytes = sealed (four k ++ filled bytes)
 
 -- "Bytes 4-507" of a block.
 unfoldable pub contents : List ℕ → List ℕ
@@ -49,7 +49,7 @@ unfoldable pub sealedWith : ℕ → List ℕ → Bool
 sealedWith k block = cond (eqb (fourAt block 0) k) (eqb (fourAt block 508) (checkOf block)) false
 
 -- "14: wrong block number or check", "15: .. filling not as laid down", of block k if it is to hold so many bytes before the filling.
-unfoldable pub blockTests : ℕ → ℕ → List ℕ → Tests
-blockTests k size block =
+unfoldable pub fileBlockTests : ℕ → ℕ → List ℕ → Tests
+fileBlockTests k size block =
     Check when not (sealedWith k block) andThen
     Layout when not (allZero (drop size (contents block)))

@@ -6,10 +6,10 @@ ghost use Prim.Native.Nat.{_+_, _*_, _≤_, _<_};
 ghost use lib.ListN.{length, drop, replicate};
 ghost use Rattle.scope.specs.Refusal.{complaint};
 ghost use Rattle.scope.specs.InnerVerdict.{verdict};
-ghost use Rattle.blocks.specs.Block.{four, fourAt, checkOf, blockOf, allZero, sealedWith, blockTests};
+ghost use Rattle.fileblocks.specs.FileBlock.{four, fourAt, checkOf, fileBlockOf, allZero, sealedWith, fileBlockTests};
 
 // A block has so many bytes: its number, its contents, its check.
-pub const BLOCK: usize = 512;
+pub const FILE_BLOCK: usize = 512;
 // Its check stands from this byte on.
 const CHECK: usize = 508;
 
@@ -96,16 +96,16 @@ pub fn zeros_from(bytes: &[u8], from: usize) -> bool
 
 // Inner step. Writes the block with this number that holds these bytes, filled up with zeros. The parts follow each other from the front;
 // the check comes last, over what then stands there, so that nothing the room held before counts.
-pub fn write_block(number: u32, bytes: &[u8], block: &mut [u8])
+pub fn write_file_block(number: u32, bytes: &[u8], block: &mut [u8])
     requires { ⌜ (length (now bytes) ≤ 504) × (length (now block) ≡ 512) ⌝ }
-    ensures { λ _. ⌜ now (block .exit) ≡ blockOf number (now (bytes .entry)) ⌝ }
+    ensures { λ _. ⌜ now (block .exit) ≡ fileBlockOf number (now (bytes .entry)) ⌝ }
 {
     let end = 4 + bytes.len();
     put_four(&mut block[0..4], number);
     copy(bytes, &mut block[4..end]);
     clear(&mut block[end..CHECK]);
     let sum = check(block);
-    put_four(&mut block[CHECK..BLOCK], sum);
+    put_four(&mut block[CHECK..FILE_BLOCK], sum);
 }
 
 // Whether a block has this number and the check of its bytes.
@@ -121,9 +121,9 @@ fn is_sealed(number: u32, block: &[u8]) -> bool
 
 // Inner step. What 01's table says of a block that is to have this number and to hold `size` bytes: 14 for the number or the check,
 // then 15 for the filling behind those bytes. A full block has none.
-pub fn judge_block(number: u32, size: usize, block: &[u8]) -> Verdict
+pub fn judge_file_block(number: u32, size: usize, block: &[u8]) -> Verdict
     requires { ⌜ length (now block) ≡ 512 ⌝ }
-    ensures { λ r. ⌜ r ≡ verdict (complaint (blockTests number size (now (block .entry)))) ⌝ }
+    ensures { λ r. ⌜ r ≡ verdict (complaint (fileBlockTests number size (now (block .entry)))) ⌝ }
 {
     let sealed = is_sealed(number, block);
     let filled = zeros_from(&block[4..CHECK], size);

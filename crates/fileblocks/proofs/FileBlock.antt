@@ -7,8 +7,8 @@ use lib.ListN.{length, take, drop, replicate, length-append, length-take, length
 use native.Mathlib.Decide.{decLe}
 use lib.Seq.{take-all, take-append-seam}
 use borrow.Rule.Slice.PartMut.{midOf, putMid, mid-len}
-use Rattle.blocks.specs.Block.{four, weighted, checkOf, filled, sealed, blockOf}
-use Rattle.blocks.proofs.Writing.{written-none, written-part, written-length, written-all}
+use Rattle.fileblocks.specs.FileBlock.{four, weighted, checkOf, filled, sealed, fileBlockOf}
+use Rattle.fileblocks.proofs.Writing.{written-none, written-part, written-length, written-all}
 
 pub length-four : (n : ℕ) → length (four n) ≡ 4
 unfolding four
@@ -21,9 +21,9 @@ length-filled bytes = simp (length-append, length-take, length-replicate) (omega
 pub length-front : (k : ℕ) (bytes : List ℕ) → length (four k ++ filled bytes) ≡ 508
 length-front k bytes = simp (length-append, length-four, length-filled)
 
-pub length-block : (k : ℕ) (bytes : List ℕ) → length (blockOf k bytes) ≡ 512
-unfolding blockOf sealed
-length-block k bytes = simp (length-append, length-four, length-filled)
+pub length-fileBlockOf : (k : ℕ) (bytes : List ℕ) → length (fileBlockOf k bytes) ≡ 512
+unfolding fileBlockOf sealed
+length-fileBlockOf k bytes = simp (length-append, length-four, length-filled)
 
 -- bytes that fit are all there, with the filling behind them
 pub filled-short : (bytes : List ℕ) → length bytes ≤ 504 → filled bytes ≡ bytes ++ replicate (504 - length bytes) 0
@@ -57,14 +57,14 @@ unfolding checkOf
 check-front front rest e = ap (λ n. 1 + n) (weighted-front front rest 508 (omega arith))
 
 -- a block that is written part by part: its number, the bytes, the filling, and the check of what then stands there
-pub written-block : (number : ℕ) (bytes block : List ℕ) {a b c d : List ℕ} {sum : ℕ}
+pub written-file-block : (number : ℕ) (bytes block : List ℕ) {a b c d : List ℕ} {sum : ℕ}
     → length bytes ≤ 504 → length block ≡ 512 → a ≡ four number → b ≡ bytes
     → c ≡ replicate (length (midOf (4 + length bytes) (508 - (4 + length bytes)) (putMid 4 (4 + length bytes - 4) (putMid 0 4 block a) b))) 0
     → sum ≡ checkOf (putMid (4 + length bytes) (508 - (4 + length bytes)) (putMid 4 (4 + length bytes - 4) (putMid 0 4 block a) b) c)
     → d ≡ four sum
-    → putMid 508 4 (putMid (4 + length bytes) (508 - (4 + length bytes)) (putMid 4 (4 + length bytes - 4) (putMid 0 4 block a) b) c) d ≡ blockOf number bytes
-unfolding blockOf sealed
-written-block number bytes block {a} {b} {c} {d} {sum} short whole ea eb ec es ed =
+    → putMid 508 4 (putMid (4 + length bytes) (508 - (4 + length bytes)) (putMid 4 (4 + length bytes - 4) (putMid 0 4 block a) b) c) d ≡ fileBlockOf number bytes
+unfolding fileBlockOf sealed
+written-file-block number bytes block {a} {b} {c} {d} {sum} short whole ea eb ec es ed =
     let end = 4 + length bytes in
     let la : length a ≡ 4 = ap length ea ∙ length-four number in
     let lb : length b ≡ end - 4 = ap length eb ∙ omega arith in

@@ -1,13 +1,13 @@
--- `blocks::zeros_from` meets its contract. The invariant of its loop: the bytes from `from` on are all zero exactly if those from i on are. The measure is what is left of the length.
+-- `fileblocks::zeros_from` meets its contract. The invariant of its loop: the bytes from `from` on are all zero exactly if those from i on are. The measure is what is left of the length.
 -- Assumes nothing.
 use Prim.Native.Nat.{_-_}
 use mathlib.Core.Path.{_≡_, refl, sym, _∙_}
 use native.Mathlib.Omega.{arith}
 use lib.ListN.{length, drop}
-use Rattle.blocks.specs.Block.{allZero}
-use Rattle.blocks.proofs.Filling.{all-zero-end, all-zero-on, all-zero-off}
-use Rattle.blocks.proofs.zeros_from.Statement.{statement}
-use Rattle.blocks.proofs.zeros_from.Tie as tie
+use Rattle.fileblocks.specs.FileBlock.{allZero}
+use Rattle.fileblocks.proofs.Filling.{all-zero-end, all-zero-on, all-zero-off}
+use Rattle.fileblocks.proofs.zeros_from.Statement.{statement}
+use Rattle.fileblocks.proofs.zeros_from.Tie as tie
 
 abbrev Inv-loop : tie.InvT-loop
 Inv-loop bytes from i₀ i = allZero (drop from bytes) ≡ allZero (drop i bytes)

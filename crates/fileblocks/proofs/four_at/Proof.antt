@@ -1,9 +1,9 @@
--- `blocks::four_at` meets its contract: the sum is the definition's, and each of its bytes is below 256. Assumes nothing.
+-- `fileblocks::four_at` meets its contract: the sum is the definition's, and each of its bytes is below 256. Assumes nothing.
 use native.Mathlib.Omega.{arith}
-use Rattle.blocks.specs.Block.{fourAt}
+use Rattle.fileblocks.specs.FileBlock.{fourAt}
 use borrow.Author.Needs.{needs}
-use Rattle.blocks.proofs.four_at.Statement.{statement}
-use Rattle.blocks.proofs.four_at.Tie as tie
+use Rattle.fileblocks.proofs.four_at.Statement.{statement}
+use Rattle.fileblocks.proofs.four_at.Tie as tie
 
 shared-slice-read-wide : tie.Need-shared-slice-read-wide
 shared-slice-read-wide c = search needs

@@ -1,5 +1,5 @@
 pub mod Writing
 pub mod Number
 pub mod Filling
-pub mod Block
+pub mod FileBlock
 pub mod Differs

@@ -11,7 +11,7 @@ use borrow.Author.Tests.{eq-eqb, ne-eqb, eqb-true, not-false}
 use Rattle.scope.specs.Refusal.{Reason, _when_}
 use Rattle.scope.proofs.Judged.{Passes}
 use Rattle.scope.proofs.Limits.{passes-when}
-use Rattle.blocks.specs.Block.{fourAt, checkOf, sealedWith}
+use Rattle.fileblocks.specs.FileBlock.{fourAt, checkOf, sealedWith}
 
 pub differs : {x y a b : ℕ} → x ≡ a → y ≡ b → (x ≡ y → ⊥) → not (eqb a b) ≡ true
 differs p q n = ap not (ne-eqb _ _ (λ e. n (p ∙ e ∙ sym q)))

@@ -1,9 +1,9 @@
--- `blocks::put_four` meets its contract: four stores fill a room of four. Assumes nothing.
+-- `fileblocks::put_four` meets its contract: four stores fill a room of four. Assumes nothing.
 use borrow.Author.Needs.{needs}
-use Rattle.blocks.specs.Block.{four}
-use Rattle.blocks.proofs.Writing.{four-stores}
-use Rattle.blocks.proofs.put_four.Statement.{statement}
-use Rattle.blocks.proofs.put_four.Tie as tie
+use Rattle.fileblocks.specs.FileBlock.{four}
+use Rattle.fileblocks.proofs.Writing.{four-stores}
+use Rattle.fileblocks.proofs.put_four.Statement.{statement}
+use Rattle.fileblocks.proofs.put_four.Tie as tie
 
 cast-room : tie.Need-cast-room
 cast-room c = search needs

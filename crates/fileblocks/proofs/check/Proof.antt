@@ -1,13 +1,13 @@
--- `blocks::check` meets its contract. The invariant of its loop: the sum is 1 and that of the first k bytes, and small. The measure is how many bytes are left.
+-- `fileblocks::check` meets its contract. The invariant of its loop: the sum is 1 and that of the first k bytes, and small. The measure is how many bytes are left.
 -- Assumes nothing.
 use Prim.Native.Nat.{_-_, _+_}
 use mathlib.Core.Path.{_≡_, ap, _∙_}
 use borrow.Author.Needs.{needs}
 use native.Mathlib.Omega.{arith}
-use Rattle.blocks.specs.Block.{weighted, checkOf}
-use Rattle.blocks.proofs.Number.{Summed, summed-none, summed-more, term-small}
-use Rattle.blocks.proofs.check.Statement.{statement}
-use Rattle.blocks.proofs.check.Tie as tie
+use Rattle.fileblocks.specs.FileBlock.{weighted, checkOf}
+use Rattle.fileblocks.proofs.Number.{Summed, summed-none, summed-more, term-small}
+use Rattle.fileblocks.proofs.check.Statement.{statement}
+use Rattle.fileblocks.proofs.check.Tie as tie
 
 abbrev Inv-loop : tie.InvT-loop
 Inv-loop block sum₀ k₀ sum k = Summed block k sum

@@ -1,11 +1,11 @@
--- `blocks::is_sealed` meets its contract: a wrong number settles it, else the check does. Assumes nothing.
+-- `fileblocks::is_sealed` meets its contract: a wrong number settles it, else the check does. Assumes nothing.
 use mathlib.Core.Path.{sym, ap₂, _∙_}
 use borrow.Author.Needs.{needs}
 use borrow.Author.Tests.{eq-eqb, ne-eqb}
 use lib.Dec.{eqb}
-use Rattle.blocks.specs.Block.{sealedWith}
-use Rattle.blocks.proofs.is_sealed.Statement.{statement}
-use Rattle.blocks.proofs.is_sealed.Tie as tie
+use Rattle.fileblocks.specs.FileBlock.{sealedWith}
+use Rattle.fileblocks.proofs.is_sealed.Statement.{statement}
+use Rattle.fileblocks.proofs.is_sealed.Tie as tie
 
 four-at-requires : tie.Need-four-at-requires
 four-at-requires c κs = search needs

@@ -1,8 +1,8 @@
--- `blocks::write_block` meets its contract: the number, the bytes, the filling and the check are written one behind the other. Assumes nothing.
+-- `fileblocks::write_file_block` meets its contract: the number, the bytes, the filling and the check are written one behind the other. Assumes nothing.
 use borrow.Author.Needs.{needs}
-use Rattle.blocks.proofs.Block.{written-block}
-use Rattle.blocks.proofs.write_block.Statement.{statement}
-use Rattle.blocks.proofs.write_block.Tie as tie
+use Rattle.fileblocks.proofs.FileBlock.{written-file-block}
+use Rattle.fileblocks.proofs.write_file_block.Statement.{statement}
+use Rattle.fileblocks.proofs.write_file_block.Tie as tie
 
 add-end : tie.Need-add-end
 add-end c = search needs
@@ -64,15 +64,15 @@ same-length c = search needs
 returns : tie.Need-returns
 returns c =
     let start = c .before .before .before .before .before .before .before .before .before .before .before .before .before .before .before .before .before .before .before .before in
-    written-block _ _ (start .args .block .now) (start .pre .0) (start .pre .1)
+    written-file-block _ _ (start .args .block .now) (start .pre .0) (start .pre .1)
     (c .before .before .before .before .before .before .before .before .before .before .before .before .before .before .before .before .put-four .ensures)
     (c .before .before .before .before .before .before .before .before .before .before .before .before .copy .ensures)
     (c .before .before .before .before .before .before .before .before .clear .ensures)
     (c .before .before .before .before .check .ensures)
     (c .before .before .put-four2 .ensures)
 
-pub write-block-spec : {M : Type 1} → statement M
-write-block-spec =
+pub write-file-block-spec : {M : Type 1} → statement M
+write-file-block-spec =
     tie.close
     (tie.spec
     add-end

@@ -6,7 +6,7 @@ use native.Mathlib.Nat.{mul-le-mul}
 use native.Mathlib.Numerals.{add-one}
 use native.Mathlib.Omega.{arith}
 use lib.ListN.{getD}
-use Rattle.blocks.specs.Block.{weighted}
+use Rattle.fileblocks.specs.FileBlock.{weighted}
 
 -- the sum's terms are small, and so is the sum
 pub term-small : {k b : ℕ} → k < 508 → b < 256 → (k + 1) * b ≤ 129540

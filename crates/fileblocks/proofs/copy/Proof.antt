@@ -1,4 +1,4 @@
--- `blocks::copy` meets its contract. The invariant of its loop: the room is written with the first i bytes. The measure is what is left to copy.
+-- `fileblocks::copy` meets its contract. The invariant of its loop: the room is written with the first i bytes. The measure is what is left to copy.
 -- Assumes nothing.
 use Prim.Native.Nat.{_-_}
 use native.Mathlib.Omega.{arith}
@@ -6,9 +6,9 @@ use native.Mathlib.Numerals.{add-one}
 use mathlib.Core.Path.{_≡_, _∙_, ap}
 use lib.ListN.{length, take}
 use lib.Seq.{take-suc, take-length}
-use Rattle.blocks.proofs.Writing.{Written, written-none, written-one, written-length, written-all}
-use Rattle.blocks.proofs.copy.Statement.{statement}
-use Rattle.blocks.proofs.copy.Tie as tie
+use Rattle.fileblocks.proofs.Writing.{Written, written-none, written-one, written-length, written-all}
+use Rattle.fileblocks.proofs.copy.Statement.{statement}
+use Rattle.fileblocks.proofs.copy.Tie as tie
 
 abbrev Inv-loop : tie.InvT-loop
 Inv-loop bytes room₀ i₀ room i = Written room₀ room (take i bytes) i

@@ -1,12 +1,12 @@
--- `blocks::clear` meets its contract. The invariant of its loop: the room is written with i zeros. The measure is what is left of the length.
+-- `fileblocks::clear` meets its contract. The invariant of its loop: the room is written with i zeros. The measure is what is left of the length.
 -- Assumes nothing.
 use Prim.Native.Nat.{ℕ, _-_}
 use native.Mathlib.Omega.{arith}
 use mathlib.Core.Path.{_≡_, _∙_, ap}
 use lib.ListN.{length, replicate, replicate-append-replicate}
-use Rattle.blocks.proofs.Writing.{Written, written-none, written-one, written-length, written-all}
-use Rattle.blocks.proofs.clear.Statement.{statement}
-use Rattle.blocks.proofs.clear.Tie as tie
+use Rattle.fileblocks.proofs.Writing.{Written, written-none, written-one, written-length, written-all}
+use Rattle.fileblocks.proofs.clear.Statement.{statement}
+use Rattle.fileblocks.proofs.clear.Tie as tie
 
 abbrev Inv-loop : tie.InvT-loop
 Inv-loop room₀ i₀ room i = Written room₀ room (replicate i 0) i
