@@ -8,7 +8,7 @@ use native.Mathlib.Numerals.{add-one}
 use native.Mathlib.Omega.{arith}
 use lib.ListN.{length, take, drop, set, length-append, length-drop, take-append-drop}
 use lib.Seq.{length-take-le, take-at, drop-at, drop-drop, set-split}
-use Rattle.decimal.specs.Promise.{Written}
+use Rattle.rooms.specs.InnerRooms.{Written}
 
 -- to write nothing changes nothing
 pub written-none : (room : List ℕ) (at : ℕ) → Written room at [] at room

@@ -1,12 +1,12 @@
--- `report::write_bytes` meets its contract. The loop's invariant: the bytes are written but for those from place k on.
+-- `rooms::write_bytes` meets its contract. The loop's invariant: the bytes are written but for those from number k on.
 -- The measure is what is left of them. Assumes nothing.
 use Prim.Native.Nat.{_-_}
 use native.Mathlib.Omega.{arith}
 use borrow.Author.Needs.{needs}
 use lib.ListN.{length, drop, drop-of-length-le}
-use Rattle.report.proofs.Writing.{Writing, writing-starts, writing-long, writing-ends, byte-fits, byte-written}
-use Rattle.report.proofs.write_bytes.Statement.{statement}
-use Rattle.report.proofs.write_bytes.Tie as tie
+use Rattle.rooms.proofs.Writing.{Writing, writing-starts, writing-long, writing-ends, byte-fits, byte-written}
+use Rattle.rooms.proofs.write_bytes.Statement.{statement}
+use Rattle.rooms.proofs.write_bytes.Tie as tie
 
 abbrev Inv-loop : tie.InvT-loop
 Inv-loop room₀ at bytes next₀ k₀ room next k = Writing room₀ at bytes (drop k bytes) next room

@@ -1,9 +1,9 @@
--- `text::put` meets its contract: a list stays as it is where a place past its end is set. Assumes nothing.
+-- `rooms::put` meets its contract: a list stays as it is where nothing is set but past its end. Assumes nothing.
 use mathlib.Core.Path.{sym}
 use lib.Seq.{set-out}
 use borrow.Author.Needs.{needs}
-use Rattle.text.proofs.put.Statement.{statement}
-use Rattle.text.proofs.put.Tie as tie
+use Rattle.rooms.proofs.put.Statement.{statement}
+use Rattle.rooms.proofs.put.Tie as tie
 
 mul-room : tie.Need-mul-room
 mul-room c = search needs
