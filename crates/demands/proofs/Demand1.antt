@@ -35,7 +35,7 @@ use Rattle.saved.specs.declared.Saved.{Saved}
 use Rattle.saved.specs.declared.Loaded.{Loaded}
 use Rattle.saved.specs.File.{fileOf, runOf, mapOf}
 use Rattle.saved.specs.Promise.{saysSaving, saysReading, SavingPromise, ReadingPromise}
-use Rattle.fileblocks.proofs.Differs.{agrees, same}
+use Rattle.scope.proofs.Differs.{agrees, same}
 use Rattle.text.specs.declared.Answer.{Answer}
 use Rattle.text.specs.declared.Answer.the-variants.{Read, Refused}
 use Rattle.text.specs.declared.Input.{Input}
@@ -45,10 +45,13 @@ use Rattle.text.proofs.Lines.{line-split}
 use Rattle.text.proofs.Unique.{spells-unique}
 use Rattle.report.specs.declared.Output.{Output}
 use Rattle.report.specs.Report.{refusedWord, runReport, wholeReport, printed, reportOf, ReportPromise}
-use Rattle.demands.specs.Table.{Row, _given_, Says, Silent, BadPeriod, BadWeight, atPlace, AtFault, runTable, vectorsTable, firstHitTable, listingTable, sourcesTable, mapTable, savingTable, readingTable, textTable, SaysOfText}
+use Rattle.scope.specs.Table.{Row, _given_, Says, Silent, BadPeriod, runTable}
+use Rattle.saved.specs.Table.{savingTable, readingTable}
+use Rattle.demands.specs.Table.{BadWeight, atPlace, AtFault, vectorsTable, firstHitTable, listingTable, sourcesTable, mapTable, textTable, SaysOfText}
 use Rattle.demands.specs.Texts.{printedBy}
-use Rattle.demands.proofs.Rendered.{says-split, silent-says, exactly, keeps}
-use Rattle.demands.proofs.Rows.{vectors-rows, first-hit-rows, listing-rows, map-rows, saving-rows, reading-rows, text-rows}
+use Rattle.scope.proofs.Rendered.{says-split, silent-says, exactly, keeps}
+use Rattle.saved.proofs.Table.{saving-renders, reading-renders}
+use Rattle.demands.proofs.Rows.{vectors-rows, first-hit-rows, listing-rows, map-rows, text-rows}
 
 -- ---- vectors
 
@@ -95,20 +98,20 @@ module _ (run : Run) (periods weights map : List ℕ) (answer : Added) (after : 
 module _ (run : Run) (map room : List ℕ) (answer : Saved) (after : List ℕ) (h : SavingPromise run map room answer after) where
   -- A reply of the saving call reads "refused n" exactly when its table says n.
   pub saving-refused : (n : ℕ) → (saysSaving answer ≡ refused n) ↔ Says (savingTable run map room) n
-  saving-refused = exactly (saving-rows run map room) tt (saysSaving answer) (h .says)
+  saving-refused = exactly (saving-renders run map room) tt (saysSaving answer) (h .says)
 
   -- And the room for the file then holds what it held.
   pub saving-keeps : (n : ℕ) → saysSaving answer ≡ refused n → after ≡ room
-  saving-keeps = keeps (saving-rows run map room) tt (saysSaving answer) (h .says) room (fileOf run map) after (h .stores)
+  saving-keeps = keeps (saving-renders run map room) tt (saysSaving answer) (h .says) room (fileOf run map) after (h .stores)
 
 module _ (file map : List ℕ) (answer : Loaded) (after : List ℕ) (h : ReadingPromise file map answer after) where
   -- A reply of the reading call reads "refused n" exactly when its table says n.
   pub reading-refused : (n : ℕ) → (saysReading answer ≡ refused n) ↔ Says (readingTable file map) n
-  reading-refused = exactly (reading-rows file map) (runOf file) (saysReading answer) (h .says)
+  reading-refused = exactly (reading-renders file map) (runOf file) (saysReading answer) (h .says)
 
   -- And the map then holds what it held.
   pub reading-keeps : (n : ℕ) → saysReading answer ≡ refused n → after ≡ map
-  reading-keeps = keeps (reading-rows file map) (runOf file) (saysReading answer) (h .says) map (mapOf file) after (h .stores)
+  reading-keeps = keeps (reading-renders file map) (runOf file) (saysReading answer) (h .says) map (mapOf file) after (h .stores)
 
 -- ---- reading a text
 

@@ -37,9 +37,12 @@ use Rattle.exports.specs.declared.RunReply.{RunReply}
 use Rattle.exports.specs.declared.TextReply.{TextReply}
 use Rattle.exports.specs.Promise.{Exported}
 use Rattle.exports.specs.Replies.{tellSteps, tellFirst, tellListing, tellAdded, tellSaved, tellLoaded, tellAnswer, tellText}
-use Rattle.demands.specs.Table.{Says, vectorsTable, firstHitTable, listingTable, mapTable, savingTable, readingTable, SaysOfText, Tells}
-use Rattle.demands.proofs.Rendered.{said-some}
-use Rattle.demands.proofs.Rows.{vectors-rows, first-hit-rows, listing-rows, map-rows, saving-rows, reading-rows, text-rows}
+use Rattle.scope.specs.Table.{Says, Tells}
+use Rattle.saved.specs.Table.{savingTable, readingTable}
+use Rattle.demands.specs.Table.{vectorsTable, firstHitTable, listingTable, mapTable, SaysOfText}
+use Rattle.scope.proofs.Rendered.{said-some}
+use Rattle.demands.proofs.Rows.{vectors-rows, first-hit-rows, listing-rows, map-rows, text-rows}
+use Rattle.saved.proofs.Table.{saving-renders, reading-renders}
 use Rattle.demands.proofs.Demand1.{vectors-refused, first-hit-refused, listing-refused, listing-keeps, map-refused, map-keeps, saving-refused, saving-keeps, reading-refused, reading-keeps, text-refused, text-refused-alone}
 
 -- ---- every C function
@@ -181,7 +184,7 @@ module _ (run : Run) (periods weights map : List ℕ) {after : List ℕ} {a : �
 -- `zenithgong_save`, whose answer is the refusal
 module _ (run : Run) (map room : List ℕ) {after : List ℕ} {a : ℕ} (e : Exported (λ r. SavingPromise run map room r after) tellSaved a) where
   pub exported-saving-refused : Tells (Says (savingTable run map room)) a
-  exported-saving-refused = by-table e (λ n. n) saysSaving saved-field (λ r h. saving-refused run map room r after h) (said-some (saving-rows run map room))
+  exported-saving-refused = by-table e (λ n. n) saysSaving saved-field (λ r h. saving-refused run map room r after h) (said-some (saving-renders run map room))
 
   pub exported-saving-keeps : a ≢ 0 → after ≡ room
   exported-saving-keeps = kept e (λ n. n) saysSaving saved-field (λ r h. saving-keeps run map room r after h)
@@ -189,7 +192,7 @@ module _ (run : Run) (map room : List ℕ) {after : List ℕ} {a : ℕ} (e : Exp
 -- `zenithgong_read`
 module _ (file map : List ℕ) {after : List ℕ} {a : RunReply} (e : Exported (λ r. ReadingPromise file map r after) tellLoaded a) where
   pub exported-reading-refused : Tells (Says (readingTable file map)) (a .refusal)
-  exported-reading-refused = by-table e (λ a. a .refusal) saysReading loaded-field (λ r h. reading-refused file map r after h) (said-some (reading-rows file map))
+  exported-reading-refused = by-table e (λ a. a .refusal) saysReading loaded-field (λ r h. reading-refused file map r after h) (said-some (reading-renders file map))
 
   pub exported-reading-keeps : a .refusal ≢ 0 → (a ≡ tellLoaded (Refused·loaded (a .refusal))) × (after ≡ map)
   exported-reading-keeps some = (

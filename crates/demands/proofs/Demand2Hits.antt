@@ -21,7 +21,8 @@ use Rattle.hits.specs.declared.FirstHit.{FirstHit}
 use Rattle.hits.specs.Promise.{first, saysFirstHit, FirstHitPromise}
 use Rattle.hits.specs.Proposition.{InWindow, NextHit, Cases}
 use Rattle.hits.proofs.Proposition as Proposition
-use Rattle.demands.specs.Table.{Silent, firstHitTable}
+use Rattle.scope.specs.Table.{Silent}
+use Rattle.demands.specs.Table.{firstHitTable}
 use Rattle.demands.specs.FirstHit.{HitsCell, IsFirstHit, NoHitFrom, NextOnLine}
 use Rattle.demands.proofs.Rows.{first-hit-rows}
 use Rattle.demands.proofs.FirstHits.{first-is, none-is}
