@@ -23,8 +23,7 @@ use Rattle.scope.specs.Reply.{Said, refused, answered, reply, stored}
 use Rattle.scope.proofs.Judged.{Passes, broken, sound, then, both, grant-reply, grant-stored, said-answered}
 use Rattle.scope.proofs.Limits.{passes-then}
 use Rattle.scope.proofs.Hits.{hits-remainder}
-use Rattle.vectors.specs.InnerSequence.{vector}
-use Rattle.vectors.specs.Vectors.{InLattice, IsPair, Values}
+use Rattle.vectors.specs.Vectors.{vector, InLattice, IsPair, Values}
 use Rattle.vectors.specs.Promise.{vectorsTests, saysVectors, Admits, VectorsPromise}
 use Rattle.vectors.proofs.Unique.{said-unique}
 use Rattle.saved.specs.declared.Saved.{Saved}

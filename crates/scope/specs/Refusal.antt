@@ -128,8 +128,8 @@ periodTests period =
 unfoldable pub sourceTests : Source → Tests
 sourceTests source = periodTests (source .period)
 
--- "7: weight 0 or above 255", of any ceiling.
+-- "7: weight 0 or above 255", of any ceiling c.
 unfoldable pub weightTests : ℕ → ℕ → Tests
-weightTests ceiling weight =
+weightTests c weight =
     Weight when eqb weight 0 andThen
-    Weight when ltb ceiling weight
+    Weight when ltb c weight

@@ -31,9 +31,13 @@ pub record ValidSource (source : Source) : Type 0 where
   pub ticks : 1 ≤ source .period
   pub fits : source .period ≤ 2147483647
 
--- The same table: "map cell: one byte". No number of the list is above the ceiling; of bytes that is 255.
+-- The same table: "weight: 1 to 255"; and "the smaller of 255 and old value + weights". No weight and no cell of a map is above it.
+abbrev pub ceiling : ℕ
+ceiling = 255
+
+-- No number of the list is above n.
 abbrev pub UpTo : ℕ → List ℕ → Type 0
-UpTo ceiling numbers = (k : ℕ) → getD numbers k 0 ≤ ceiling
+UpTo n numbers = (k : ℕ) → getD numbers k 0 ≤ n
 
 -- "a first line and a last line": both belong to the run.
 unfoldable pub linesOf : Run → ℕ

@@ -9,6 +9,7 @@ use mathlib.Core.Option.{Option, some, none}
 use lib.ListN.{length, getD, take}
 use lib.Seq.{take-at}
 use Rattle.scope.specs.declared.Run.{Run}
+use Rattle.scope.specs.Run.{ceiling}
 use Rattle.scope.specs.Refusal.{Complaint, Tests, _when_, _andThen_, ofSource, nothing, orElse, placed, complaint, number, windowTests, lineTests, runTests, periodTests, weightTests}
 use Rattle.scope.specs.Reply.{refused, answered, reply, stored}
 use Rattle.scope.proofs.Judged.{Passes, grant-reply, grant-stored}
@@ -114,7 +115,7 @@ tests-apart content =
     let many : _≡_ {A = ℕ} 12 11 → ⊥ = λ e. omega arith in
     search (window, lines, interval, many, list 1 (content .entries)) depth 12
   where
-    list : (k : ℕ) (entries : List Entry) → Apart 11 (listTests 255 k entries)
+    list : (k : ℕ) (entries : List Entry) → Apart 11 (listTests ceiling k entries)
     list k [] = tt
     list k (e ∷ entries) =
         let period : _≡_ {A = ℕ} 4 11 → ⊥ = λ z. omega arith in
