@@ -14,7 +14,7 @@ use borrow.Author.Tests.{leb-false, lt-leb}
 use Rattle.scope.specs.declared.Run.{Run}
 use Rattle.scope.specs.declared.Source.{Source}
 use Rattle.scope.specs.declared.RunCell.{RunCell}
-use Rattle.scope.specs.Run.{ValidRun, ValidSource, cellsOf}
+use Rattle.scope.specs.Run.{ValidRun, ValidSource, ceiling, cellsOf}
 use Rattle.scope.specs.Hit.{hitsFrom}
 use Rattle.scope.specs.Refusal.{Complaint, complaint, number}
 use Rattle.scope.specs.Reply.{Said, refused, answered}
@@ -35,7 +35,7 @@ use Rattle.saved.specs.declared.Saved.{Saved}
 use Rattle.saved.specs.declared.Loaded.{Loaded}
 use Rattle.saved.specs.File.{fileOf, runOf, mapOf}
 use Rattle.saved.specs.Promise.{saysSaving, saysReading, SavingPromise, ReadingPromise}
-use Rattle.blocks.proofs.Differs.{agrees, same}
+use Rattle.fileblocks.proofs.Differs.{agrees, same}
 use Rattle.text.specs.declared.Answer.{Answer}
 use Rattle.text.specs.declared.Answer.the-variants.{Read, Refused}
 use Rattle.text.specs.declared.Input.{Input}
@@ -90,7 +90,7 @@ module _ (run : Run) (periods weights map : List ℕ) (answer : Added) (after : 
 
   -- And the map then holds what it held: none is "half written before the tenth source is refused".
   pub map-keeps : (n : ℕ) → saysMap answer ≡ refused n → after ≡ map
-  map-keeps = keeps (map-rows run periods weights map) tt (saysMap answer) (h .says) map (added 255 run (entriesOf periods weights) map) after (h .stores)
+  map-keeps = keeps (map-rows run periods weights map) tt (saysMap answer) (h .says) map (added ceiling run (entriesOf periods weights) map) after (h .stores)
 
 -- ---- saving and reading
 
@@ -191,7 +191,7 @@ module _ (run : Run) (fits : run .interval ≤ 4294967295) where
       )
 
   -- That of the map call exactly if the run and all sources are, and the lists and the map have the right lengths.
-  pub map-silent : (periods weights map : List ℕ) → Silent (mapTable run periods weights map) ↔ (ValidRun run × (length periods ≡ length weights) × ValidEntries 255 (entriesOf periods weights) × (length map ≡ cellsOf run))
+  pub map-silent : (periods weights map : List ℕ) → Silent (mapTable run periods weights map) ↔ (ValidRun run × (length periods ≡ length weights) × ValidEntries ceiling (entriesOf periods weights) × (length map ≡ cellsOf run))
   unfolding mapTests
   map-silent periods weights map =
       let entries = entriesOf periods weights in
@@ -199,8 +199,8 @@ module _ (run : Run) (fits : run .interval ≤ 4294967295) where
         λ s.
             let p = rows .passes .1 s in
             let lists = passes-first p in
-            (valid-run (passes-first (passes-first lists)) fits, same _ _ (passes-then (passes-first lists)), valid-entries 255 1 entries (passes-then lists), same _ _ (passes-then p)),
-        λ h. rows .passes .0 (both (both (both (valid-run-passes (h .0)) (sound (agrees refl refl (h .1)))) (valid-entries-pass 255 1 entries (h .2))) (sound (agrees refl refl (h .3)))),
+            (valid-run (passes-first (passes-first lists)) fits, same _ _ (passes-then (passes-first lists)), valid-entries ceiling 1 entries (passes-then lists), same _ _ (passes-then p)),
+        λ h. rows .passes .0 (both (both (both (valid-run-passes (h .0)) (sound (agrees refl refl (h .1)))) (valid-entries-pass ceiling 1 entries (h .2))) (sound (agrees refl refl (h .3)))),
       )
 
 -- ---- a list of sources at fault

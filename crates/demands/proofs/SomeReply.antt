@@ -8,6 +8,7 @@ use mathlib.Core.Option.{Option, some, none}
 use Rattle.scope.specs.declared.Run.{Run}
 use Rattle.scope.specs.declared.Source.{Source}
 use Rattle.scope.specs.declared.RunCell.{RunCell}
+use Rattle.scope.specs.Run.{ceiling}
 use Rattle.scope.specs.Hit.{hitsFrom}
 use Rattle.scope.specs.Refusal.{complaint}
 use Rattle.scope.specs.Reply.{Said, refused, answered, reply, stored}
@@ -90,9 +91,9 @@ listing-exists run source start room =
 
 -- Some reply and some map after it fit the map call.
 pub map-exists : (run : Run) (periods weights map : List ℕ) → (answer : Added) × (after : List ℕ) × MapPromise run periods weights map answer after
-map-exists run periods weights map = go (judged (mapTests 255 run periods weights map))
+map-exists run periods weights map = go (judged (mapTests ceiling run periods weights map))
   where
-    go : Passes (mapTests 255 run periods weights map) ⊎ ((n : ℕ) × Fails (mapTests 255 run periods weights map) n) → (answer : Added) × (after : List ℕ) × MapPromise run periods weights map answer after
+    go : Passes (mapTests ceiling run periods weights map) ⊎ ((n : ℕ) × Fails (mapTests ceiling run periods weights map) n) → (answer : Added) × (after : List ℕ) × MapPromise run periods weights map answer after
     go (inl p) = (Done·map, _, granted-call p refl)
     go (inr f) = (Refused·map (f .0), map, refused-call (f .1))
 

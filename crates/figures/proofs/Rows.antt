@@ -23,14 +23,13 @@ use Rattle.scope.specs.Reply.{Said, refused, answered, reply, stored}
 use Rattle.scope.proofs.Judged.{Passes, broken, sound, then, both, grant-reply, grant-stored, said-answered}
 use Rattle.scope.proofs.Limits.{passes-then}
 use Rattle.scope.proofs.Hits.{hits-remainder}
-use Rattle.vectors.specs.InnerSequence.{vector}
-use Rattle.vectors.specs.Vectors.{InLattice, IsPair, Values}
+use Rattle.vectors.specs.Vectors.{vector, InLattice, IsPair, Values}
 use Rattle.vectors.specs.Promise.{vectorsTests, saysVectors, Admits, VectorsPromise}
 use Rattle.vectors.proofs.Unique.{said-unique}
 use Rattle.saved.specs.declared.Saved.{Saved}
 use Rattle.saved.specs.declared.Saved.the-variants.{Done as Done·saved, Refused as Refused·saved}
-use Rattle.blocks.specs.Block.{fourAt}
-use Rattle.blocks.proofs.Differs.{agrees, differs, same}
+use Rattle.fileblocks.specs.FileBlock.{fourAt}
+use Rattle.fileblocks.proofs.Differs.{agrees, differs, same}
 use Rattle.saved.specs.File.{fileLength, fileOf, savingTests}
 use Rattle.saved.specs.Promise.{saysSaving, SavingPromise}
 use Rattle.saved.proofs.Promises.{refuse-saving, grant-saving}

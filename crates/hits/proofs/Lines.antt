@@ -19,13 +19,13 @@ use Rattle.scope.specs.declared.Run.{Run}
 use Rattle.scope.specs.declared.Source.{Source}
 use Rattle.scope.specs.Run.{ValidRun, ValidSource, cellsOf, lineOf, offsetOf}
 use Rattle.scope.specs.Hit.{isHit}
-use Rattle.hits.specs.declared.walk.LineHit.{LineHit}
-use Rattle.hits.specs.declared.walk.Walk.{Walk}
+use Rattle.walk.specs.declared.LineHit.{LineHit}
+use Rattle.walk.specs.declared.Walk.{Walk}
 use Rattle.hits.specs.declared.Listing.the-variants.{Done, More}
 use Rattle.hits.specs.InnerList.{ListsFrom}
-use Rattle.hits.specs.InnerWalk.{Leads, Stands, Walking, NextLine}
-use Rattle.hits.proofs.Cells.{Points, rows-le, point-hit, hit-point, missed, own-line, inside-cells}
-use Rattle.hits.proofs.Walks.{shifted-le, shifted-lt, apart-by, fits-at}
+use Rattle.walk.specs.InnerWalk.{Leads, Stands, Walking, NextLine}
+use Rattle.search.proofs.Cells.{Points, rows-le, point-hit, hit-point, missed, own-line, inside-cells}
+use Rattle.walk.proofs.Walks.{shifted-le, shifted-lt, apart-by, fits-at}
 use Rattle.hits.proofs.Kept.{Kept, kept-over, kept-end, kept-write, kept-more, kept-done}
 
 -- what stays

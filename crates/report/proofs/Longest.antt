@@ -10,7 +10,7 @@ use Rattle.decimal.specs.Digits.{largest, digits}
 use Rattle.decimal.proofs.Laws.{length-le, length-32}
 use Rattle.scope.specs.declared.Run.{Run}
 use Rattle.rooms.specs.Lists.{UpTo, zeros}
-use Rattle.scope.specs.Run.{ValidRun, cellsOf}
+use Rattle.scope.specs.Run.{ValidRun, ceiling, cellsOf}
 use Rattle.sources.specs.Entry.{Entry, entriesOf}
 use Rattle.text.specs.Form.{fields, line, Small, srcWord, runWord, runNumbers}
 use Rattle.map.proofs.Entries.{ValidEntries, valid-entries, added-length, added-within}
@@ -31,7 +31,7 @@ line-long word numbers s = omega (arith, fields-long numbers s, length-append wo
 
 -- ---- the sources
 
-entry-long : (run : Run) (k : ℕ) (e : Entry) → cellsOf run ≤ 65536 → k ≤ largest → ValidEntries 255 (e ∷ []) → length (entryReport run k e) ≤ 48
+entry-long : (run : Run) (k : ℕ) (e : Entry) → cellsOf run ≤ 65536 → k ≤ largest → ValidEntries ceiling (e ∷ []) → length (entryReport run k e) ≤ 48
 unfolding entryReport
 entry-long run k e few place v =
     let own = v .0 in
@@ -39,7 +39,7 @@ entry-long run k e few place v =
     let s = own .source in
     line-long srcWord _ (place, (omega (arith, s .fits), (omega (arith, own .fits), (omega arith, tt))))
 
-sources-long : (run : Run) (k : ℕ) (entries : List Entry) → cellsOf run ≤ 65536 → k + length entries ≤ 65536 → ValidEntries 255 entries
+sources-long : (run : Run) (k : ℕ) (entries : List Entry) → cellsOf run ≤ 65536 → k + length entries ≤ 65536 → ValidEntries ceiling entries
     → length (srcReport run k entries) ≤ 48 * length entries
 unfolding srcReport
 sources-long run k [] few place v = omega arith
@@ -53,7 +53,7 @@ sources-long run k (e ∷ entries) few place v =
 
 -- ---- the cells
 
-cell-long : (x value : ℕ) → x < 65536 → value ≤ 255 → length (cellReport x value) ≤ 14
+cell-long : (x value : ℕ) → x < 65536 → value ≤ ceiling → length (cellReport x value) ≤ 14
 unfolding cellReport line fields
 cell-long x value h v = go (eqb value 0)
   where
@@ -68,7 +68,7 @@ cell-long x value h v = go (eqb value 0)
           length-append (digits value) (10 ∷ []),
         )
 
-cells-long : (x : ℕ) (cells : List ℕ) → x + length cells ≤ 65536 → UpTo 255 cells → length (mapReport x cells) ≤ 14 * length cells
+cells-long : (x : ℕ) (cells : List ℕ) → x + length cells ≤ 65536 → UpTo ceiling cells → length (mapReport x cells) ≤ 14 * length cells
 unfolding mapReport
 cells-long x [] h w = omega arith
 cells-long x (v ∷ cells) h w =
@@ -92,11 +92,11 @@ above-few (v ∷ cells) = go (eqb v 0) (above-few cells)
 
 map-long : (run : Run) (entries : List Entry) → length (reportedMap run entries) ≡ cellsOf run
 unfolding reportedMap
-map-long run entries = added-length 255 run entries (zeros (cellsOf run)) ∙ length-zeros (cellsOf run)
+map-long run entries = added-length ceiling run entries (zeros (cellsOf run)) ∙ length-zeros (cellsOf run)
 
-map-within : (run : Run) (entries : List Entry) → UpTo 255 (reportedMap run entries)
+map-within : (run : Run) (entries : List Entry) → UpTo ceiling (reportedMap run entries)
 unfolding reportedMap
-map-within run entries = added-within 255 run entries (zeros (cellsOf run))
+map-within run entries = added-within ceiling run entries (zeros (cellsOf run))
 
 run-long : {run : Run} → ValidRun run → cellsOf run ≤ 65536 → length (runReport run) ≤ 59
 unfolding runReport
@@ -112,7 +112,7 @@ whole-long {run} {periods} {weights} a few =
     let m = reportedMap run es in
     let cells = map-long run es in
     let r = run-long (a .valid) (a .few) in
-    let s = sources-long run 1 es (a .few) (omega arith) (valid-entries 255 1 es (record { is = a .sound })) in
+    let s = sources-long run 1 es (a .few) (omega arith) (valid-entries ceiling 1 es (record { is = a .sound })) in
     let l = cells-long 0 m (omega (arith, a .few)) (map-within run es) in
     let n = above-few m in
     let e = line-long endWord (above m ∷ []) (omega (arith, a .few), tt) in

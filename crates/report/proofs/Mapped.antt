@@ -9,7 +9,7 @@ use borrow.Author.Tests.{eq-eqb}
 use Rattle.rooms.specs.Lists.{zeros}
 use Rattle.rooms.proofs.Lists.{length-zeros, take-zeros}
 use Rattle.scope.specs.declared.Run.{Run}
-use Rattle.scope.specs.Run.{cellsOf}
+use Rattle.scope.specs.Run.{ceiling, cellsOf}
 use Rattle.sources.specs.Entry.{entriesOf}
 use Rattle.scope.proofs.Judged.{Passes, sound, both}
 use Rattle.scope.proofs.Limits.{valid-run-passes}
@@ -30,8 +30,8 @@ pub map-is : {run : Run} {periods weights map : List ℕ} {answer : Added} {afte
 unfolding mapTests reportedMap
 map-is {run} {periods} {weights} {map} a e p =
     let long : length map ≡ cellsOf run = ap length e ∙ length-zeros (cellsOf run) in
-    let passes : Passes (mapTests 255 run periods weights map) =
+    let passes : Passes (mapTests ceiling run periods weights map) =
     both
     (both (both (valid-run-passes (a .valid)) (sound (ap not (eq-eqb _ _ (a .equal))))) (record { is = a .sound }))
     (sound (ap not (eq-eqb _ _ long))) in
-    stores-added passes p .1 ∙ ap (added 255 run (entriesOf periods weights)) e
+    stores-added passes p .1 ∙ ap (added ceiling run (entriesOf periods weights)) e

@@ -5,7 +5,7 @@ use mathlib.Core.List.{List}
 use mathlib.Core.Option.{none}
 use lib.ListN.{length}
 use Rattle.scope.specs.declared.Run.{Run}
-use Rattle.scope.specs.Run.{ValidRun, cellsOf}
+use Rattle.scope.specs.Run.{ValidRun, ceiling, cellsOf}
 use Rattle.scope.specs.Refusal.{complaint}
 use Rattle.sources.specs.Entry.{entriesOf, listTests}
 
@@ -14,4 +14,4 @@ pub record ValidInput (run : Run) (periods weights : List ℕ) : Type 0 where
   pub valid : ValidRun run
   pub few : cellsOf run ≤ 65536
   pub equal : length periods ≡ length weights
-  pub sound : complaint (listTests 255 1 (entriesOf periods weights)) ≡ none
+  pub sound : complaint (listTests ceiling 1 (entriesOf periods weights)) ≡ none

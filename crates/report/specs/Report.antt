@@ -7,7 +7,7 @@ use lib.Dec.{eqb}
 use lib.ListN.{length}
 use Rattle.rooms.specs.Lists.{zeros}
 use Rattle.scope.specs.declared.Run.{Run}
-use Rattle.scope.specs.Run.{cellsOf}
+use Rattle.scope.specs.Run.{ceiling, cellsOf}
 use Rattle.scope.specs.Hit.{hitsFrom}
 use Rattle.scope.specs.Reply.{Said, refused, answered}
 use Rattle.sources.specs.Entry.{Entry}
@@ -60,7 +60,7 @@ endReport cells = line endWord (above cells ∷ [])
 
 -- "from a cleared map": the map of the run and its sources.
 unfoldable pub reportedMap : Run → List Entry → List ℕ
-reportedMap run entries = added 255 run entries (zeros (cellsOf run))
+reportedMap run entries = added ceiling run entries (zeros (cellsOf run))
 
 -- Its lines, and the line that counts them.
 unfoldable pub cellsReport : Run → List Entry → List ℕ

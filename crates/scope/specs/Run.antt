@@ -26,6 +26,10 @@ pub record ValidSource (source : Source) : Type 0 where
   pub ticks : 1 ≤ source .period
   pub fits : source .period ≤ 2147483647
 
+-- The same table: "weight: 1 to 255"; and "the smaller of 255 and old value + weights". No weight and no cell of a map is above it.
+abbrev pub ceiling : ℕ
+ceiling = 255
+
 -- "a first line and a last line": both belong to the run.
 unfoldable pub linesOf : Run → ℕ
 linesOf run = suc (run .last) - run .first

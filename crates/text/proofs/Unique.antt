@@ -10,6 +10,7 @@ use lib.ListN.{length, getD, take}
 use Rattle.rooms.specs.Lists.{padded}
 use Rattle.rooms.proofs.Lists.{padded-front}
 use Rattle.scope.specs.declared.Run.{Run}
+use Rattle.scope.specs.Run.{ceiling}
 use Rattle.scope.specs.Refusal.{Complaint, Tests, _when_, _andThen_, ofSource, nothing, orElse, placed, complaint, number, windowTests, lineTests, runTests, periodTests, weightTests}
 use Rattle.scope.specs.Reply.{Said, refused, answered, reply, stored}
 use Rattle.scope.proofs.Judged.{Passes, grant-reply, grant-stored}
@@ -133,7 +134,7 @@ tests-apart content =
     let many : _≡_ {A = ℕ} 12 11 → ⊥ = λ e. omega arith in
     search (window, lines, interval, many, list 1 (content .entries)) depth 12
   where
-    list : (k : ℕ) (entries : List Entry) → Apart 11 (listTests 255 k entries)
+    list : (k : ℕ) (entries : List Entry) → Apart 11 (listTests ceiling k entries)
     list k [] = tt
     list k (e ∷ entries) =
         let period : _≡_ {A = ℕ} 4 11 → ⊥ = λ z. omega arith in

@@ -7,7 +7,7 @@ use lib.Dec.{ltb}
 use lib.ListN.{length, take}
 use Rattle.rooms.specs.Lists.{zeros, padded}
 use Rattle.scope.specs.declared.Run.{Run}
-use Rattle.scope.specs.Run.{cellsOf}
+use Rattle.scope.specs.Run.{ceiling, cellsOf}
 use Rattle.scope.specs.Refusal.{Tests, _when_, _andThen_, TooMany, Text, complaint, number, runTests}
 use Rattle.scope.specs.Reply.{Said, refused, answered, reply, stored}
 use Rattle.sources.specs.Entry.{Entry, entriesOf, listTests}
@@ -28,7 +28,7 @@ textTests content =
     runTests (content .run) andThen
     TooMany when ltb 64 (length (content .entries)) andThen
     TooMany when ltb 65536 (cellsOf (content .run)) andThen
-    listTests 255 1 (content .entries)
+    listTests ceiling 1 (content .entries)
 
 -- What the reply is to be. "Anything else in the text is refused 11."
 abbrev pub replyTo : Option Content → Said Run

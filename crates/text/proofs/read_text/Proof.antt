@@ -8,7 +8,7 @@ use lib.Dec.{ltb}
 use lib.ListN.{length, take}
 use lib.Seq.{length-take-le}
 use Rattle.rooms.specs.Lists.{zeros}
-use Rattle.scope.specs.Run.{cellsOf}
+use Rattle.scope.specs.Run.{ceiling, cellsOf}
 use Rattle.scope.specs.Refusal.{_when_, _andThen_, TooMany, complaint, number, runTests}
 use Rattle.scope.specs.InnerVerdict.{verdict}
 use Rattle.scope.proofs.Judged.{Passes, Fails, broken, sound, first, then, both, fine, blamed}
@@ -182,7 +182,7 @@ returns-4 c =
     let cells = entries .before .before .before in
     refuses (formed (cells .before .before .before .before .before .before .before))
     (then (cells-passes cells)
-    (subst (λ es. Fails (listTests 255 1 es) (c .before .before .number3 .given .0 .0)) (entries-judged cells) (blamed (entries .judge-entries .ensures) (c .before .before .number3 .given .1))))
+    (subst (λ es. Fails (listTests ceiling 1 es) (c .before .before .number3 .given .0 .0)) (entries-judged cells) (blamed (entries .judge-entries .ensures) (c .before .before .number3 .given .1))))
     (c .refuse4 .ensures)
 
 enum-told-3 : tie.Need-enum-told-3
@@ -196,7 +196,7 @@ returns-5 c =
     let run = cells .before .before .before .before .before .before .before in
     accepts (lines-read (run .before) .lists) (few (cells .before .before)) (formed run)
     (both (cells-passes cells)
-    (subst (λ es. Passes (listTests 255 1 es)) (entries-judged cells) (fine (entries .judge-entries .ensures) (c .enum-told3 .given .1))))
+    (subst (λ es. Passes (listTests ceiling 1 es)) (entries-judged cells) (fine (entries .judge-entries .ensures) (c .enum-told3 .given .1))))
 
 pub read-text-spec : {M : Type 1} → statement M
 read-text-spec =
