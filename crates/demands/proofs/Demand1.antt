@@ -39,10 +39,11 @@ use Rattle.scope.proofs.Differs.{agrees, same}
 use Rattle.text.specs.declared.Answer.{Answer}
 use Rattle.text.specs.declared.Answer.the-variants.{Read, Refused}
 use Rattle.text.specs.declared.Input.{Input}
-use Rattle.text.specs.Form.{line, Content}
+use Rattle.words.specs.Line.{line}
+use Rattle.text.specs.Form.{Content}
 use Rattle.rooms.specs.Lists.{zeros, padded}
 use Rattle.text.specs.Promise.{Reads, replyTo, handed, refusal, saysText, TextPromise}
-use Rattle.text.proofs.Lines.{line-split}
+use Rattle.words.proofs.Lines.{line-split}
 use Rattle.text.proofs.Unique.{spells-unique}
 use Rattle.report.specs.declared.Output.{Output}
 use Rattle.report.specs.Report.{refusedWord, runReport, wholeReport, printed, reportOf}
