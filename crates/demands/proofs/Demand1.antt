@@ -9,12 +9,12 @@ use mathlib.Core.Logic.{_↔_, Iff·trans, _⊎_, inl, inr, _≢_}
 use mathlib.Core.List.{List, [], _∷_, _++_}
 use mathlib.Core.Option.{Option, some, none}
 use lib.ListN.{length, getD, take}
-use lib.Seq.{take-at}
+use Rattle.rooms.proofs.Lists.{padded-front}
 use borrow.Author.Tests.{leb-false, lt-leb}
 use Rattle.scope.specs.declared.Run.{Run}
 use Rattle.scope.specs.declared.Source.{Source}
 use Rattle.scope.specs.declared.RunCell.{RunCell}
-use Rattle.scope.specs.Run.{ValidRun, ValidSource, cellsOf}
+use Rattle.scope.specs.Run.{ValidRun, ValidSource, ceiling, cellsOf}
 use Rattle.scope.specs.Hit.{hitsFrom}
 use Rattle.scope.specs.Refusal.{Complaint, complaint, number}
 use Rattle.scope.specs.Reply.{Said, refused, answered}
@@ -35,16 +35,18 @@ use Rattle.saved.specs.declared.Saved.{Saved}
 use Rattle.saved.specs.declared.Loaded.{Loaded}
 use Rattle.saved.specs.File.{fileOf, runOf, mapOf}
 use Rattle.saved.specs.Promise.{saysSaving, saysReading, SavingPromise, ReadingPromise}
-use Rattle.blocks.proofs.Differs.{agrees, same}
+use Rattle.fileblocks.proofs.Differs.{agrees, same}
 use Rattle.text.specs.declared.Answer.{Answer}
 use Rattle.text.specs.declared.Answer.the-variants.{Read, Refused}
 use Rattle.text.specs.declared.Input.{Input}
 use Rattle.text.specs.Form.{line, Content}
-use Rattle.text.specs.Promise.{Reads, replyTo, handed, padded, refusal, saysText, TextPromise}
+use Rattle.rooms.specs.Lists.{zeros, padded}
+use Rattle.text.specs.Promise.{Reads, replyTo, handed, refusal, saysText, TextPromise}
 use Rattle.text.proofs.Lines.{line-split}
 use Rattle.text.proofs.Unique.{spells-unique}
 use Rattle.report.specs.declared.Output.{Output}
-use Rattle.report.specs.Report.{refusedWord, runReport, wholeReport, printed, reportOf, ReportPromise}
+use Rattle.report.specs.Report.{refusedWord, runReport, wholeReport, printed, reportOf}
+use Rattle.report.specs.Promise.{ReportPromise}
 use Rattle.demands.specs.Table.{Row, _given_, Says, Silent, BadPeriod, BadWeight, atPlace, AtFault, runTable, vectorsTable, firstHitTable, listingTable, sourcesTable, mapTable, savingTable, readingTable, textTable, SaysOfText}
 use Rattle.demands.specs.Texts.{printedBy}
 use Rattle.demands.proofs.Rendered.{says-split, silent-says, exactly, keeps}
@@ -88,7 +90,7 @@ module _ (run : Run) (periods weights map : List ℕ) (answer : Added) (after : 
 
   -- And the map then holds what it held: none is "half written before the tenth source is refused".
   pub map-keeps : (n : ℕ) → saysMap answer ≡ refused n → after ≡ map
-  map-keeps = keeps (map-rows run periods weights map) tt (saysMap answer) (h .says) map (added 255 run (entriesOf periods weights) map) after (h .stores)
+  map-keeps = keeps (map-rows run periods weights map) tt (saysMap answer) (h .says) map (added ceiling run (entriesOf periods weights) map) after (h .stores)
 
 -- ---- saving and reading
 
@@ -137,13 +139,13 @@ module _ (text : List ℕ) (input : Input) (h : TextPromise text input) where
 
   -- "A refused call answers with the number alone": no source goes with it.
   pub text-refused-alone : (n : ℕ) → saysText (input .answer) ≡ refused n → input ≡ refusal n
-  unfolding padded periodsOf weightsOf
+  unfolding padded zeros periodsOf weightsOf
   text-refused-alone n k =
       let none-handed = go (h .content) (h .says) in
       let answers = refuses (input .answer) k in
       let counts = h .counts ∙ ap length none-handed in
-      let periods = h .periods ∙ ap (λ es. padded (periodsOf es)) none-handed in
-      let weights = h .weights ∙ ap (λ es. padded (weightsOf es)) none-handed in
+      let periods = h .periods ∙ ap (λ es. padded 64 (periodsOf es)) none-handed in
+      let weights = h .weights ∙ ap (λ es. padded 64 (weightsOf es)) none-handed in
       λ i. record { answer = answers i; count = counts i; periods = periods i; weights = weights i }
     where
       go : (o : Option Content) → saysText (input .answer) ≡ replyTo o → handed o ≡ []
@@ -172,7 +174,7 @@ pub report-refused : (text : List ℕ) (output : Output) → ReportPromise text 
 unfolding reportOf
 report-refused text output h n =
     let bytes = reportOf (h .content) in
-    let is : printedBy output ≡ bytes = ap (take (output .length)) (h .says .begins) ∙ take-at bytes _ (output .length) (sym (h .says .counts)) in
+    let is : printedBy output ≡ bytes = ap (take (output .length)) (h .says .begins) ∙ padded-front 921600 (output .length) bytes (sym (h .says .counts)) in
     rw is (Iff·trans (printed-refused (replyTo (h .content)) (handed (h .content)) n) (reply-refused text (h .content) (h .reads) n))
 
 -- ---- input that is not bad
@@ -189,7 +191,7 @@ module _ (run : Run) (fits : run .interval ≤ 4294967295) where
       )
 
   -- That of the map call exactly if the run and all sources are, and the lists and the map have the right lengths.
-  pub map-silent : (periods weights map : List ℕ) → Silent (mapTable run periods weights map) ↔ (ValidRun run × (length periods ≡ length weights) × ValidEntries 255 (entriesOf periods weights) × (length map ≡ cellsOf run))
+  pub map-silent : (periods weights map : List ℕ) → Silent (mapTable run periods weights map) ↔ (ValidRun run × (length periods ≡ length weights) × ValidEntries ceiling (entriesOf periods weights) × (length map ≡ cellsOf run))
   unfolding mapTests
   map-silent periods weights map =
       let entries = entriesOf periods weights in
@@ -197,8 +199,8 @@ module _ (run : Run) (fits : run .interval ≤ 4294967295) where
         λ s.
             let p = rows .passes .1 s in
             let lists = passes-first p in
-            (valid-run (passes-first (passes-first lists)) fits, same _ _ (passes-then (passes-first lists)), valid-entries 255 1 entries (passes-then lists), same _ _ (passes-then p)),
-        λ h. rows .passes .0 (both (both (both (valid-run-passes (h .0)) (sound (agrees refl refl (h .1)))) (valid-entries-pass 255 1 entries (h .2))) (sound (agrees refl refl (h .3)))),
+            (valid-run (passes-first (passes-first lists)) fits, same _ _ (passes-then (passes-first lists)), valid-entries ceiling 1 entries (passes-then lists), same _ _ (passes-then p)),
+        λ h. rows .passes .0 (both (both (both (valid-run-passes (h .0)) (sound (agrees refl refl (h .1)))) (valid-entries-pass ceiling 1 entries (h .2))) (sound (agrees refl refl (h .3)))),
       )
 
 -- ---- a list of sources at fault

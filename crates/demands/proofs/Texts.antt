@@ -12,7 +12,7 @@ use lib.ListN.{length, take, length-take}
 use lib.Seq.{take-all}
 use borrow.Author.Tests.{ltb-false, le-ltb}
 use Rattle.scope.specs.declared.Run.{Run}
-use Rattle.scope.specs.Run.{ValidRun, cellsOf}
+use Rattle.scope.specs.Run.{ValidRun, ceiling, cellsOf}
 use Rattle.sources.specs.Entry.{Entry}
 use Rattle.scope.proofs.Judged.{Passes, sound, both, grant-reply, grant-stored}
 use Rattle.scope.proofs.Limits.{passes-when, passes-first, passes-then, valid-run, valid-run-passes}
@@ -25,7 +25,8 @@ use Rattle.text.specs.Promise.{Reads, textTests, TextPromise, sourcesOf}
 use Rattle.text.proofs.Says as Says
 use Rattle.text.proofs.Unique as Unique
 use Rattle.report.specs.declared.Output.{Output}
-use Rattle.report.specs.Report.{wholeReport, printed, reportOf, ReportPromise}
+use Rattle.report.specs.Report.{wholeReport, printed, reportOf}
+use Rattle.report.specs.Promise.{ReportPromise}
 use Rattle.report.proofs.Unique.{output-prints}
 use Rattle.demands.specs.Texts.{Listable, printedBy}
 
@@ -33,7 +34,7 @@ use Rattle.demands.specs.Texts.{Listable, printedBy}
 run-small : {run : Run} → ValidRun run → Small (runNumbers run)
 run-small v = (omega arith, (omega arith, (omega arith, (omega arith, tt))))
 
-all-small : (entries : List Entry) → ValidEntries 255 entries → AllSmall entries
+all-small : (entries : List Entry) → ValidEntries ceiling entries → AllSmall entries
 all-small [] w = tt
 all-small (entry ∷ entries) w =
     let own = w .0 in
@@ -51,7 +52,7 @@ within text content = (
         h .0 .short,
         record {
           valid = valid-run (passes-first (passes-first (passes-first tests))) (omega arith);
-          within = valid-entries 255 1 (content .entries) (passes-then tests);
+          within = valid-entries ceiling 1 (content .entries) (passes-then tests);
           sources = ltb-false 64 (length (content .entries)) (passes-when (passes-then (passes-first (passes-first tests))));
           cells = ltb-false 65536 (cellsOf (content .run)) (passes-when (passes-then (passes-first tests)));
         },
@@ -61,7 +62,7 @@ within text content = (
         record { spelled = h .0; runSmall = run-small (limits .valid); allSmall = all-small (content .entries) (limits .within); short = h .1 },
         both
             (both (both (valid-run-passes (limits .valid)) (sound (le-ltb _ _ (limits .sources)))) (sound (le-ltb _ _ (limits .cells))))
-            (valid-entries-pass 255 1 (content .entries) (limits .within)),
+            (valid-entries-pass ceiling 1 (content .entries) (limits .within)),
       ),
 )
 

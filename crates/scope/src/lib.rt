@@ -7,6 +7,9 @@ ghost use Rattle.scope.specs.Refusal.{complaint, windowTests, lineTests,
 ghost use Rattle.scope.specs.InnerVerdict.{verdict};
 ghost use Rattle.scope.specs.InnerVerdict.{firstOf};
 
+// What a weight, and a cell of a map, is at most: `ceiling` of the specs. A cell is as wide as this number.
+pub const CEILING: u8 = 255;
+
 // A run: the window's width and the interval in ticks, the first and the last line.
 pub struct Run {
     pub window: u32,
