@@ -183,7 +183,7 @@ begin-divides run s = first-two (mod-lt (run .interval) (s .ticks))
 
 pub begin-seeking : {run : Run} {source : Source} {at : Point} → ValidRun run → ValidSource source → at .distance < source .period → Seeking (begin run source .before) (begin run source .last) at (run .window) (run .last)
 begin-seeking {run} {source} v s low = record {
-  division = record { p = _; r = _; is = begin-divides run s; fits = s .fits };
+  division = record { p = _; r = _; at = begin-divides run s; small = s .fits };
   below = rw (size-of (start-left (source .period))) (omega arith);
   short = v .ends;
 }
