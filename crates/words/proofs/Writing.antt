@@ -1,20 +1,22 @@
--- A text that is written piece by piece: what is written and what is left make the whole. Assumes nothing.
-use Prim.Native.Nat.{ℕ, suc, _+_, _≤_, _<_}
+-- A line that is written word by number, and how long it is. Assumes nothing.
+use Prim.Native.Nat.{ℕ, suc, _+_, _*_, _≤_, _<_}
 use native.Mathlib.Omega.{arith}
 use native.Mathlib.Numerals.{add-one}
 use mathlib.Core.Path.{_≡_, refl, sym, ap, _∙_, subst}
 use mathlib.Core.List.{List, [], _∷_, _++_, append-assoc, append-nil}
 use lib.ListN.{length, drop, getD, set, length-append, drop-of-length-le}
 use lib.Seq.{drop-cons}
-use Rattle.decimal.specs.Digits.{digits}
+use Rattle.rooms.specs.Lists.{UpTo}
+use Rattle.decimal.specs.Digits.{largest, digits}
+use Rattle.decimal.proofs.Laws.{length-32}
 use Rattle.rooms.specs.InnerRooms.{Written}
-use Rattle.text.specs.Form.{fields, line}
+use Rattle.words.specs.Line.{fields, line}
 use Rattle.rooms.proofs.Written.{written-append, written-length}
 use Rattle.rooms.proofs.Writing.{Writing, writing-starts, writing-more, writing-last, piece-fits}
 
 -- ---- a number after the other
 
--- the numbers of a line are written but for those from place k on
+-- the numbers of a line are written but for those from number k on
 pub record Numbers (before : List ℕ) (at : ℕ) (numbers : List ℕ) (k next : ℕ) (room : List ℕ) : Type 0 where
   pub writing : Writing before at (fields numbers) (fields (drop k numbers)) next room
 
@@ -23,7 +25,7 @@ pub record Spaced (before : List ℕ) (at : ℕ) (numbers : List ℕ) (k next : 
   pub writing : Writing before at (fields numbers) (digits (getD numbers k 0) ++ fields (drop (k + 1) numbers)) next room
 
 module _ {before : List ℕ} {at : ℕ} {numbers : List ℕ} {k next : ℕ} {room : List ℕ} (w : Numbers before at numbers k next room) where
-  -- the numbers from place k on: a space, the number there, and those after it
+  -- the numbers from number k on: a space, the number there, and those after it
   from : k < length numbers → fields (drop k numbers) ≡ (32 ∷ []) ++ (digits (getD numbers k 0) ++ fields (drop (k + 1) numbers))
   unfolding fields
   from h = rw (drop-cons numbers k 0 h, add-one)
@@ -67,3 +69,16 @@ module _ (room : List ℕ) (at : ℕ) (word numbers : List ℕ) (fits : at + len
       → Written room at (line word numbers) end last
   unfolding line
   line-written w v = written-append w (omega arith) v
+
+-- ---- how long a line is
+
+-- 11 bytes for each number at most
+fields-long : (numbers : List ℕ) → UpTo largest numbers → length (fields numbers) ≤ 1 + 11 * length numbers
+unfolding fields
+fields-long [] u = omega arith
+fields-long (n ∷ numbers) u =
+    omega (arith, fields-long numbers (λ k. u (suc k)), length-32 n (u 0), length-append (digits n) (fields numbers))
+
+pub line-long : (word numbers : List ℕ) → UpTo largest numbers → length (line word numbers) ≤ length word + (1 + 11 * length numbers)
+unfolding line
+line-long word numbers u = omega (arith, fields-long numbers u, length-append word (fields numbers))

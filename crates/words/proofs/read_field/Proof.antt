@@ -1,19 +1,18 @@
--- `text::read_field` meets its contract: a space, and the number that is read after it. Assumes nothing.
+-- `words::read_field` meets its contract: a space, and the number that is read after it. Assumes nothing.
 use mathlib.Core.Path.{refl, subst}
 use mathlib.Core.List.{[], _∷_}
 use borrow.Author.Needs.{needs}
-use Rattle.scope.specs.Refusal.{number}
 use Rattle.decimal.specs.Inner.{Reading}
-use Rattle.text.specs.Inner.{Spelled, WordAt, FieldAt}
-use Rattle.text.proofs.Lines.{hand-on, no-space, field-stands, field-bad}
-use Rattle.text.proofs.read_field.Statement.{statement}
-use Rattle.text.proofs.read_field.Tie as tie
+use Rattle.words.specs.Inner.{Spelled, WordAt, FieldAt}
+use Rattle.words.proofs.Lines.{hand-on, no-space, field-stands, field-bad}
+use Rattle.words.proofs.read_field.Statement.{statement}
+use Rattle.words.proofs.read_field.Tie as tie
 
 -- the space that was read
 space : (c : tie.After-known-told)
     → let a = c .before .before .before .before .before .before .before .args in
     Spelled (a .text .now) (a .at) (32 ∷ []) (c .before .space .given .0 .0)
-space c = subst (WordAt _ _ _) (c .before .space .given .1) (c .before .before .before .read-word .ensures)
+space c = subst (WordAt _ _ _ _) (c .before .space .given .1) (c .before .before .before .read-word .ensures)
 
 slice-aggregate-read-word : tie.Need-slice-aggregate-read-word
 slice-aggregate-read-word c = search needs
@@ -29,8 +28,8 @@ enum-told c = search needs
 
 returns : tie.Need-returns
 returns c =
-    hand-on (c .enum-told .given .1) (WordAt _ _ _) (FieldAt _ _ _ _ _) (c .before .before .read-word .ensures)
-    (λ r. (r .0, record { none = no-space (r .1); kept = refl }))
+    hand-on (c .enum-told .given .1) (WordAt _ _ _ _) (FieldAt _ _ _ _ _ _) (c .before .before .read-word .ensures)
+    (λ r. (r .0, no-space (r .1)))
 
 read-number-requires : tie.Need-read-number-requires
 read-number-requires c κs = search needs
@@ -42,10 +41,9 @@ enum-told-2 : tie.Need-enum-told-2
 enum-told-2 c = search needs
 
 returns-2 : tie.Need-returns-2
-unfolding number
 returns-2 c =
     let n = subst (Reading _ _) (c .enum-told2 .given .1) (c .before .before .read-number .ensures) in
-    (refl, record { none = field-bad (space (c .before .before .before)) n; kept = refl })
+    (refl, field-bad (space (c .before .before .before)) n)
 
 put-requires : tie.Need-put-requires
 put-requires c κs = search needs

@@ -1,13 +1,13 @@
--- `report::write_line` meets its contract. The loop's invariant: after the word, the numbers are written but for those from place k on.
+-- `words::write_line` meets its contract. The loop's invariant: after the word, the numbers are written but for those from number k on.
 -- The measure is what is left of them. Assumes nothing.
 use Prim.Native.Nat.{_-_}
 use mathlib.Core.Path.{_∙_}
 use borrow.Author.Needs.{needs}
 use lib.ListN.{length}
-use Rattle.report.proofs.Writing.{Numbers, Spaced, space-fits, space-written, number-fits, number-written, newline-fits, newline-written, word-fits, word-written, line-written}
+use Rattle.words.proofs.Writing.{Numbers, Spaced, space-fits, space-written, number-fits, number-written, newline-fits, newline-written, word-fits, word-written, line-written}
 use Rattle.rooms.proofs.Writing.{writing-long}
-use Rattle.report.proofs.write_line.Statement.{statement}
-use Rattle.report.proofs.write_line.Tie as tie
+use Rattle.words.proofs.write_line.Statement.{statement}
+use Rattle.words.proofs.write_line.Tie as tie
 
 abbrev Inv-loop : tie.InvT-loop
 Inv-loop room₀ at word numbers next₀ k₀ t8 t9 room next k = Numbers room₀ next₀ numbers k next room
