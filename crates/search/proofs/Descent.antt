@@ -33,7 +33,7 @@ pub record Turned (u v : Vector) (t : ℕ) : Type 0 where
   pub lines : t * v .line + u .line ≤ 2147483647
   pub whole : natAbs (u .offset) ≤ 2147483647
 
-pub turned : {u v : Vector} {t : ℕ} → Division u v → 0 < natAbs (v .offset) → t * natAbs (v .offset) < natAbs (u .offset) → Turned u v t
+turned : {u v : Vector} {t : ℕ} → Division u v → 0 < natAbs (v .offset) → t * natAbs (v .offset) < natAbs (u .offset) → Turned u v t
 turned d some h =
     let f = d .small in
     let m = moved (staged (d .at)) some h in
