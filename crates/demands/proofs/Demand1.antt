@@ -9,7 +9,7 @@ use mathlib.Core.Logic.{_↔_, Iff·trans, _⊎_, inl, inr, _≢_}
 use mathlib.Core.List.{List, [], _∷_, _++_}
 use mathlib.Core.Option.{Option, some, none}
 use lib.ListN.{length, getD, take}
-use lib.Seq.{take-at}
+use Rattle.rooms.proofs.Lists.{padded-front}
 use borrow.Author.Tests.{leb-false, lt-leb}
 use Rattle.scope.specs.declared.Run.{Run}
 use Rattle.scope.specs.declared.Source.{Source}
@@ -35,16 +35,18 @@ use Rattle.saved.specs.declared.Saved.{Saved}
 use Rattle.saved.specs.declared.Loaded.{Loaded}
 use Rattle.saved.specs.File.{fileOf, runOf, mapOf}
 use Rattle.saved.specs.Promise.{saysSaving, saysReading, SavingPromise, ReadingPromise}
-use Rattle.blocks.proofs.Differs.{agrees, same}
+use Rattle.fileblocks.proofs.Differs.{agrees, same}
 use Rattle.text.specs.declared.Answer.{Answer}
 use Rattle.text.specs.declared.Answer.the-variants.{Read, Refused}
 use Rattle.text.specs.declared.Input.{Input}
 use Rattle.text.specs.Form.{line, Content}
-use Rattle.text.specs.Promise.{Reads, replyTo, handed, padded, refusal, saysText, TextPromise}
+use Rattle.rooms.specs.Lists.{zeros, padded}
+use Rattle.text.specs.Promise.{Reads, replyTo, handed, refusal, saysText, TextPromise}
 use Rattle.text.proofs.Lines.{line-split}
 use Rattle.text.proofs.Unique.{spells-unique}
 use Rattle.report.specs.declared.Output.{Output}
-use Rattle.report.specs.Report.{refusedWord, runReport, wholeReport, printed, reportOf, ReportPromise}
+use Rattle.report.specs.Report.{refusedWord, runReport, wholeReport, printed, reportOf}
+use Rattle.report.specs.Promise.{ReportPromise}
 use Rattle.demands.specs.Table.{Row, _given_, Says, Silent, BadPeriod, BadWeight, atPlace, AtFault, runTable, vectorsTable, firstHitTable, listingTable, sourcesTable, mapTable, savingTable, readingTable, textTable, SaysOfText}
 use Rattle.demands.specs.Texts.{printedBy}
 use Rattle.demands.proofs.Rendered.{says-split, silent-says, exactly, keeps}
@@ -137,13 +139,13 @@ module _ (text : List ℕ) (input : Input) (h : TextPromise text input) where
 
   -- "A refused call answers with the number alone": no source goes with it.
   pub text-refused-alone : (n : ℕ) → saysText (input .answer) ≡ refused n → input ≡ refusal n
-  unfolding padded periodsOf weightsOf
+  unfolding padded zeros periodsOf weightsOf
   text-refused-alone n k =
       let none-handed = go (h .content) (h .says) in
       let answers = refuses (input .answer) k in
       let counts = h .counts ∙ ap length none-handed in
-      let periods = h .periods ∙ ap (λ es. padded (periodsOf es)) none-handed in
-      let weights = h .weights ∙ ap (λ es. padded (weightsOf es)) none-handed in
+      let periods = h .periods ∙ ap (λ es. padded 64 (periodsOf es)) none-handed in
+      let weights = h .weights ∙ ap (λ es. padded 64 (weightsOf es)) none-handed in
       λ i. record { answer = answers i; count = counts i; periods = periods i; weights = weights i }
     where
       go : (o : Option Content) → saysText (input .answer) ≡ replyTo o → handed o ≡ []
@@ -172,7 +174,7 @@ pub report-refused : (text : List ℕ) (output : Output) → ReportPromise text 
 unfolding reportOf
 report-refused text output h n =
     let bytes = reportOf (h .content) in
-    let is : printedBy output ≡ bytes = ap (take (output .length)) (h .says .begins) ∙ take-at bytes _ (output .length) (sym (h .says .counts)) in
+    let is : printedBy output ≡ bytes = ap (take (output .length)) (h .says .begins) ∙ padded-front 921600 (output .length) bytes (sym (h .says .counts)) in
     rw is (Iff·trans (printed-refused (replyTo (h .content)) (handed (h .content)) n) (reply-refused text (h .content) (h .reads) n))
 
 -- ---- input that is not bad

@@ -26,7 +26,7 @@ use Rattle.text.specs.declared.Input.{Input}
 use Rattle.text.specs.Promise.{TextPromise}
 use Rattle.text.proofs.Unique as Text
 use Rattle.report.specs.declared.Output.{Output}
-use Rattle.report.specs.Report.{ReportPromise}
+use Rattle.report.specs.Promise.{ReportPromise}
 use Rattle.report.proofs.Unique as Report
 
 -- The vectors call: one reply.

@@ -20,12 +20,12 @@ use Rattle.vectors.specs.Promise.{vectorsTests}
 use Rattle.hits.specs.Promise.{firstHitTests, listingTests}
 use Rattle.map.specs.Promise.{mapTests}
 use Rattle.scope.proofs.Hits.{hit-or-miss}
-use Rattle.blocks.specs.Block.{fourAt, contents, allZero, sealedWith, blockTests}
-use Rattle.blocks.proofs.Differs.{sealed-right}
-use Rattle.saved.specs.File.{blockAt, runOf, blocksFor, fileLength, savingTests, headingTests, cellBlocksTests, fileTests, readingTests}
+use Rattle.fileblocks.specs.FileBlock.{fourAt, contents, allZero, sealedWith, fileBlockTests}
+use Rattle.fileblocks.proofs.Differs.{sealed-right}
+use Rattle.saved.specs.File.{fileBlockAt, runOf, fileBlocksFor, fileLength, savingTests, headingTests, laterFileBlocksTests, fileTests, readingTests}
 use Rattle.text.specs.Form.{Content}
 use Rattle.text.specs.Promise.{textTests}
-use Rattle.demands.specs.Table.{_given_, BadWindow, BadLines, BadPeriod, BadWeight, NotZero, BadCheck, BadHeading, runTable, vectorsTable, firstHitTable, listingTable, sourcesTable, mapTable, savingTable, blocksTable, readingTable, textTable}
+use Rattle.demands.specs.Table.{_given_, BadWindow, BadLines, BadPeriod, BadWeight, NotZero, BadCheck, BadHeading, runTable, vectorsTable, firstHitTable, listingTable, sourcesTable, mapTable, savingTable, laterFileBlocksTable, readingTable, textTable}
 use Rattle.demands.proofs.Rendered.{Renders, _next_, one, either, then-two, then-three, no-rows, of-source}
 
 -- ---- the tests of numbers
@@ -157,16 +157,16 @@ not-sealed k block = (λ e. to (ℕ-discrete (fourAt block 0) k) (not-true (seal
     from bad (inr e) = ap not e
 
 heading-rows : (block : List ℕ) → Renders (headingTests block) (14 given BadCheck 0 block ∷ 15 given BadHeading block ∷ [])
-unfolding headingTests blockTests contents number
+unfolding headingTests fileBlockTests contents number
 heading-rows block =
     then-three (one (not-sealed 0 block) next either (either (one (not-zero block 4 20 504)) (one (unequal (getD block 4 0) 1))) (one (not-zero block 5 0 3)))
 
-blocks-rows : (cells : ℕ) (file : List ℕ) (n : ℕ) → Renders (cellBlocksTests cells file n) (blocksTable cells file n)
-unfolding cellBlocksTests blockTests contents number
-blocks-rows cells file zero = no-rows
-blocks-rows cells file (suc k) =
-    let block = blockAt file (suc k) in
-    blocks-rows cells file k next (one (not-sealed (suc k) block) next one (not-zero block 4 (cells - 504 * k) 504))
+later-file-blocks-rows : (cells : ℕ) (file : List ℕ) (n : ℕ) → Renders (laterFileBlocksTests cells file n) (laterFileBlocksTable cells file n)
+unfolding laterFileBlocksTests fileBlockTests contents number
+later-file-blocks-rows cells file zero = no-rows
+later-file-blocks-rows cells file (suc k) =
+    let block = fileBlockAt file (suc k) in
+    later-file-blocks-rows cells file k next (one (not-sealed (suc k) block) next one (not-zero block 4 (cells - 504 * k) 504))
 
 -- "Reading: 13 for whole blocks, then block 0 for 14 and 15, then 1, 2, 3, 13 for the count, then the other blocks .., then 9."
 pub reading-rows : (file map : List ℕ) → Renders (readingTests file map) (readingTable file map)
@@ -174,10 +174,10 @@ unfolding readingTests fileTests number
 reading-rows file map =
     let cells = cellsOf (runOf file) in
     either (one (unequal (length file % 512) 0)) (one (equal (length file) 0)) next
-    heading-rows (blockAt file 0) next
+    heading-rows (fileBlockAt file 0) next
     run-rows (runOf file) next
     one (unequal (length file) (fileLength cells)) next
-    blocks-rows cells file (blocksFor cells) next
+    later-file-blocks-rows cells file (fileBlocksFor cells) next
     one (unequal (length map) cells)
 
 -- "Text: 11, 1, 2, 3, 12, then each source 4 before 7", after 11

@@ -3,9 +3,8 @@
 use Prim.Native.Nat.{ℕ}
 use mathlib.Core.Path.{_≡_, refl}
 use mathlib.Core.Logic.{_⊎_, inl, inr}
-use mathlib.Core.List.{List, _++_}
+use mathlib.Core.List.{List}
 use mathlib.Core.Option.{Option, some, none}
-use lib.ListN.{length, drop}
 use Rattle.scope.specs.declared.Run.{Run}
 use Rattle.scope.specs.declared.Source.{Source}
 use Rattle.scope.specs.declared.RunCell.{RunCell}
@@ -33,14 +32,12 @@ use Rattle.saved.specs.declared.Loaded.the-variants.{Of, Refused as Refused·lo
 use Rattle.saved.specs.File.{savingTests, readingTests}
 use Rattle.saved.specs.Promise.{SavingPromise, ReadingPromise}
 use Rattle.saved.proofs.Promises.{refuse-saving, grant-saving, refuse-reading, grant-reading}
-use Rattle.sources.specs.Lists.{periodsOf, weightsOf}
-use Rattle.text.specs.declared.Answer.{Answer}
-use Rattle.text.specs.declared.Answer.the-variants.{Read, Refused as Refused·text}
 use Rattle.text.specs.declared.Input.{Input}
-use Rattle.text.specs.Promise.{replyTo, handed, padded, saysText, TextPromise}
-use Rattle.text.proofs.Says.{reads-exists}
+use Rattle.text.specs.Promise.{TextPromise}
+use Rattle.text.proofs.Unique as Text
 use Rattle.report.specs.declared.Output.{Output}
-use Rattle.report.specs.Report.{reportOf, blank, ReportPromise}
+use Rattle.report.specs.Promise.{ReportPromise}
+use Rattle.report.proofs.Unique as Report
 use Rattle.demands.proofs.Rendered.{judged}
 
 -- Some reply fits the vectors call.
@@ -116,27 +113,12 @@ reading-exists file map = go (judged (readingTests file map))
     go (inl p) = (Of _, _, grant-reading p refl refl)
     go (inr f) = (Refused·loaded (f .0), map, refuse-reading (f .1))
 
--- ---- text and report: every text says something, or it has not the form
-
-abbrev answer : Said Run → Answer
-answer (answered run) = Read run
-answer (refused n) = Refused·text n
-
-says-answer : (s : Said Run) → saysText (answer s) ≡ s
-says-answer (answered run) = refl
-says-answer (refused n) = refl
+-- ---- text and report
 
 -- Some reply fits every text.
 pub text-exists : (text : List ℕ) → (input : Input) × TextPromise text input
-text-exists text =
-    let (o, r) = reads-exists text in (
-      record { answer = answer (replyTo o); count = length (handed o); periods = padded (periodsOf (handed o)); weights = padded (weightsOf (handed o)) },
-      record { content = o; reads = r; says = says-answer (replyTo o); counts = refl; periods = refl; weights = refl },
-    )
+text-exists = Text.text-exists
 
 -- And some output.
 pub report-exists : (text : List ℕ) → (output : Output) × ReportPromise text output
-report-exists text =
-    let (o, r) = reads-exists text in
-    let bytes = reportOf o in
-    (record { length = length bytes; bytes = bytes ++ drop (length bytes) blank }, record { content = o; reads = r; says = record { counts = refl; begins = refl } })
+report-exists = Report.report-exists

@@ -25,7 +25,8 @@ use Rattle.text.specs.Promise.{Reads, textTests, TextPromise, sourcesOf}
 use Rattle.text.proofs.Says as Says
 use Rattle.text.proofs.Unique as Unique
 use Rattle.report.specs.declared.Output.{Output}
-use Rattle.report.specs.Report.{wholeReport, printed, reportOf, ReportPromise}
+use Rattle.report.specs.Report.{wholeReport, printed, reportOf}
+use Rattle.report.specs.Promise.{ReportPromise}
 use Rattle.report.proofs.Unique.{output-prints}
 use Rattle.demands.specs.Texts.{Listable, printedBy}
 

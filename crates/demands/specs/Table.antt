@@ -10,8 +10,8 @@ use Rattle.scope.specs.declared.Source.{Source}
 use Rattle.scope.specs.declared.RunCell.{RunCell}
 use Rattle.scope.specs.Run.{ceiling, cellsOf}
 use Rattle.sources.specs.Entry.{Entry, entriesOf}
-use Rattle.blocks.specs.Block.{fourAt, checkOf}
-use Rattle.saved.specs.File.{blockAt, runOf, blocksFor, fileLength}
+use Rattle.fileblocks.specs.FileBlock.{fourAt, checkOf}
+use Rattle.saved.specs.File.{fileBlockAt, runOf, fileBlocksFor, fileLength}
 use Rattle.text.specs.Form.{Content, Spells}
 use Rattle.text.specs.Promise.{Reads}
 
@@ -131,23 +131,23 @@ BadHeading block = (NotZero block 24 508 ⊎ (getD block 4 0 ≢ 1)) ⊎ NotZero
 
 -- "the other blocks in order, 14 before 15 in each": blocks 1 to n of a file with so many cells, 504 in each block, the rest of
 -- "bytes 4-507" being filling.
-abbrev pub blocksTable : ℕ → List ℕ → ℕ → List Row
-blocksTable cells file zero = []
-blocksTable cells file (suc k) =
-    blocksTable cells file k ++
-    14 given BadCheck (suc k) (blockAt file (suc k)) ∷
-    15 given NotZero (blockAt file (suc k)) (4 + (cells - 504 * k)) 508 ∷ []
+abbrev pub laterFileBlocksTable : ℕ → List ℕ → ℕ → List Row
+laterFileBlocksTable cells file zero = []
+laterFileBlocksTable cells file (suc k) =
+    laterFileBlocksTable cells file k ++
+    14 given BadCheck (suc k) (fileBlockAt file (suc k)) ∷
+    15 given NotZero (fileBlockAt file (suc k)) (4 + (cells - 504 * k)) 508 ∷ []
 
 -- "Reading: 13 for whole blocks, then block 0 for 14 and 15, then 1, 2, 3, 13 for the count, then the other blocks in order, 14
 -- before 15 in each, then 9."
 abbrev pub readingTable : (file map : List ℕ) → List Row
 readingTable file map =
     13 given ((length file % 512 ≢ 0) ⊎ (length file ≡ 0)) ∷
-    14 given BadCheck 0 (blockAt file 0) ∷
-    15 given BadHeading (blockAt file 0) ∷
+    14 given BadCheck 0 (fileBlockAt file 0) ∷
+    15 given BadHeading (fileBlockAt file 0) ∷
     runTable (runOf file) ++
     13 given (length file ≢ fileLength (cellsOf (runOf file))) ∷
-    blocksTable (cellsOf (runOf file)) file (blocksFor (cellsOf (runOf file))) ++
+    laterFileBlocksTable (cellsOf (runOf file)) file (fileBlocksFor (cellsOf (runOf file))) ++
     9 given (length map ≢ cellsOf (runOf file)) ∷ []
 
 -- "Text: 11, 1, 2, 3, 12, then each source 4 before 7": what follows 11, of what the text says.

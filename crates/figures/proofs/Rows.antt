@@ -28,8 +28,8 @@ use Rattle.vectors.specs.Promise.{vectorsTests, saysVectors, Admits, VectorsPro
 use Rattle.vectors.proofs.Unique.{said-unique}
 use Rattle.saved.specs.declared.Saved.{Saved}
 use Rattle.saved.specs.declared.Saved.the-variants.{Done as Done·saved, Refused as Refused·saved}
-use Rattle.blocks.specs.Block.{fourAt}
-use Rattle.blocks.proofs.Differs.{agrees, differs, same}
+use Rattle.fileblocks.specs.FileBlock.{fourAt}
+use Rattle.fileblocks.proofs.Differs.{agrees, differs, same}
 use Rattle.saved.specs.File.{fileLength, fileOf, savingTests}
 use Rattle.saved.specs.Promise.{saysSaving, SavingPromise}
 use Rattle.saved.proofs.Promises.{refuse-saving, grant-saving}

@@ -17,7 +17,7 @@ use Rattle.map.specs.declared.Added.the-variants.{Done as Done·map}
 use Rattle.map.specs.Promise.{MapPromise}
 use Rattle.saved.specs.declared.Saved.{Saved}
 use Rattle.saved.specs.declared.Saved.the-variants.{Done as Done·saved}
-use Rattle.blocks.specs.Block.{fourAt}
+use Rattle.fileblocks.specs.FileBlock.{fourAt}
 use Rattle.saved.specs.Promise.{SavingPromise}
 use Rattle.hits.specs.declared.Listing.{Listing}
 use Rattle.hits.specs.declared.Listing.the-variants.{Done}

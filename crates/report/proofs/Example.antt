@@ -5,6 +5,7 @@ use mathlib.Core.List.{[], _∷_}
 use mathlib.Core.Option.{some}
 use lib.ListN.{take}
 use Rattle.decimal.specs.Digits.{digitsWithin, digits}
+use Rattle.rooms.specs.Lists.{zeros}
 use Rattle.scope.specs.Run.{linesOf, cellsOf, lineOf, offsetOf}
 use Rattle.scope.specs.Hit.{instant, isHit, hitsAmong, hitsFrom}
 use Rattle.scope.specs.Refusal.{complaint, windowTests, lineTests, runTests, periodTests, weightTests}
@@ -16,7 +17,8 @@ use Rattle.text.specs.Form.{fields, line, srcLines, textOf, Content, Spells}
 use Rattle.text.specs.Promise.{textTests}
 use Rattle.text.proofs.Unique.{reads-unique}
 use Rattle.report.specs.declared.Output.{Output}
-use Rattle.report.specs.Report.{runReport, entryReport, srcReport, cellReport, mapReport, above, endReport, zeros, reportedMap, cellsReport, wholeReport, printed, reportOf, ReportPromise}
+use Rattle.report.specs.Report.{runReport, entryReport, srcReport, cellReport, mapReport, above, endReport, reportedMap, cellsReport, wholeReport, printed, reportOf}
+use Rattle.report.specs.Promise.{ReportPromise}
 use Rattle.report.specs.Example.{exampleInput, exampleOutput}
 use Rattle.report.proofs.Unique.{output-prints}
 

@@ -1,21 +1,22 @@
 -- How long a report can be: a line has few numbers, each with few digits, and there are few lines. Assumes nothing.
-use Prim.Native.Nat.{ℕ, suc, _+_, _*_, _≤_, _<_, _^_}
+use Prim.Native.Nat.{ℕ, suc, _+_, _*_, _≤_, _<_}
 use native.Mathlib.Omega.{arith}
 use mathlib.Core.Path.{_≡_, _∙_}
 use mathlib.Core.Bool.{Bool, true, false, cond}
 use mathlib.Core.List.{List, [], _∷_, _++_}
 use lib.Dec.{eqb}
 use lib.ListN.{length, length-append}
-use Rattle.decimal.specs.Digits.{digits}
+use Rattle.decimal.specs.Digits.{largest, digits}
 use Rattle.decimal.proofs.Laws.{length-le, length-32}
 use Rattle.scope.specs.declared.Run.{Run}
-use Rattle.scope.specs.Run.{ValidRun, ceiling, UpTo, cellsOf}
+use Rattle.rooms.specs.Lists.{UpTo, zeros}
+use Rattle.scope.specs.Run.{ValidRun, ceiling, cellsOf}
 use Rattle.sources.specs.Entry.{Entry, entriesOf}
 use Rattle.text.specs.Form.{fields, line, Small, srcWord, runWord, runNumbers}
 use Rattle.map.proofs.Entries.{ValidEntries, valid-entries, added-length, added-within}
-use Rattle.report.specs.Report.{mapWord, endWord, runReport, entryReport, srcReport, cellReport, mapReport, above, endReport, zeros, reportedMap, cellsReport, wholeReport}
-use Rattle.report.specs.Inner.{Reportable}
-use Rattle.report.proofs.Mapped.{zeros-long}
+use Rattle.report.specs.Report.{mapWord, endWord, runReport, entryReport, srcReport, cellReport, mapReport, above, endReport, reportedMap, cellsReport, wholeReport}
+use Rattle.report.specs.Inner.{ValidInput}
+use Rattle.rooms.proofs.Lists.{length-zeros}
 use Rattle.report.proofs.Sources.{hits-few}
 
 -- a line of small numbers: 11 bytes each at most
@@ -30,7 +31,7 @@ line-long word numbers s = omega (arith, fields-long numbers s, length-append wo
 
 -- ---- the sources
 
-entry-long : (run : Run) (k : ℕ) (e : Entry) → cellsOf run ≤ 65536 → k < 2 ^ 32 → ValidEntries ceiling (e ∷ []) → length (entryReport run k e) ≤ 48
+entry-long : (run : Run) (k : ℕ) (e : Entry) → cellsOf run ≤ 65536 → k ≤ largest → ValidEntries ceiling (e ∷ []) → length (entryReport run k e) ≤ 48
 unfolding entryReport
 entry-long run k e few place v =
     let own = v .0 in
@@ -91,7 +92,7 @@ above-few (v ∷ cells) = go (eqb v 0) (above-few cells)
 
 map-long : (run : Run) (entries : List Entry) → length (reportedMap run entries) ≡ cellsOf run
 unfolding reportedMap
-map-long run entries = added-length ceiling run entries (zeros (cellsOf run)) ∙ zeros-long (cellsOf run)
+map-long run entries = added-length ceiling run entries (zeros (cellsOf run)) ∙ length-zeros (cellsOf run)
 
 map-within : (run : Run) (entries : List Entry) → UpTo ceiling (reportedMap run entries)
 unfolding reportedMap
@@ -103,7 +104,7 @@ run-long {run} v few =
     line-long runWord (runNumbers run ++ (cellsOf run ∷ []))
     (omega (arith, v .wide), (omega (arith, v .fits), (omega (arith, v .ordered, v .ends), (omega (arith, v .ends), (omega arith, tt)))))
 
-pub whole-long : {run : Run} {periods weights : List ℕ} → Reportable run periods weights → length (entriesOf periods weights) ≤ 64
+pub whole-long : {run : Run} {periods weights : List ℕ} → ValidInput run periods weights → length (entriesOf periods weights) ≤ 64
     → length (wholeReport run (entriesOf periods weights)) ≤ 920650
 unfolding wholeReport cellsReport endReport
 whole-long {run} {periods} {weights} a few =

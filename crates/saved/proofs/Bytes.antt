@@ -4,9 +4,9 @@ use mathlib.Core.List.{List, [], _∷_, _++_}
 use native.Mathlib.Omega.{arith}
 use lib.ListN.{length, getD, take, drop, replicate}
 use Rattle.scope.specs.Run.{UpTo}
-use Rattle.blocks.specs.Block.{four, filled, weighted, checkOf}
-use Rattle.saved.specs.File.{blockAt}
-use Rattle.blocks.proofs.Number.{term-small}
+use Rattle.fileblocks.specs.FileBlock.{four, filled, weighted, checkOf}
+use Rattle.saved.specs.File.{fileBlockAt}
+use Rattle.fileblocks.proofs.Number.{term-small}
 
 pub bytes-take : (n : ℕ) (l : List ℕ) → UpTo 255 l → UpTo 255 (take n l)
 bytes-take zero l b i = omega arith
@@ -41,9 +41,9 @@ pub bytes-filled : (l : List ℕ) → UpTo 255 l → UpTo 255 (filled l)
 unfolding filled
 bytes-filled l b = bytes-append (take 504 l) _ (bytes-take 504 l b) (bytes-zeros (504 - length l))
 
-pub bytes-blockAt : (file : List ℕ) (k : ℕ) → UpTo 255 file → UpTo 255 (blockAt file k)
-unfolding blockAt
-bytes-blockAt file k b = bytes-take 512 (drop (512 * k) file) (bytes-drop (512 * k) file b)
+pub bytes-fileBlockAt : (file : List ℕ) (k : ℕ) → UpTo 255 file → UpTo 255 (fileBlockAt file k)
+unfolding fileBlockAt
+bytes-fileBlockAt file k b = bytes-take 512 (drop (512 * k) file) (bytes-drop (512 * k) file b)
 
 -- the check of bytes fits its four bytes
 weighted-small : (l : List ℕ) → UpTo 255 l → (n : ℕ) → n ≤ 508 → weighted l n ≤ 129540 * n

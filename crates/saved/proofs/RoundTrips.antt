@@ -16,7 +16,7 @@ use Rattle.saved.specs.declared.Loaded.{Loaded}
 use Rattle.saved.specs.declared.Loaded.the-variants.{Of, Refused as Refused·loaded}
 use Rattle.saved.specs.File.{fileLength, fileOf, mapOf, savingTests, readingTests}
 use Rattle.saved.specs.Promise.{saysSaving, saysReading, SavingPromise, ReadingPromise}
-use Rattle.blocks.proofs.Differs.{agrees, same}
+use Rattle.fileblocks.proofs.Differs.{agrees, same}
 use Rattle.saved.proofs.Promises.{accepted, grant-saving, grant-reading}
 use Rattle.saved.proofs.Saving.{run-read, map-read, file-passes}
 use Rattle.saved.proofs.Accepting.{length-mapOf, file-is}

@@ -8,14 +8,14 @@ use native.Mathlib.Omega.{arith}
 use lib.ListN.{length, getD, take, drop, length-take, length-drop, take-append-drop}
 use lib.Seq.{getD-take, getD-drop, take-all, take-add, drop-at, take-at}
 use Rattle.scope.specs.Run.{UpTo}
-use Rattle.blocks.specs.Block.{four, fourAt, checkOf, filled, sealed, blockOf, contents, allZero, blockTests}
+use Rattle.fileblocks.specs.FileBlock.{four, fourAt, checkOf, filled, sealed, fileBlockOf, contents, allZero, fileBlockTests}
 use borrow.Author.Tests.{not-false}
 use Rattle.scope.proofs.Judged.{Passes, sound, both}
 use Rattle.scope.proofs.Limits.{passes-first, passes-then, passes-when}
-use Rattle.blocks.proofs.Filling.{all-zero-behind, all-zero-replicate}
+use Rattle.fileblocks.proofs.Filling.{all-zero-behind, all-zero-replicate}
 use Rattle.saved.proofs.Bytes.{bytes-take, bytes-drop, bytes-append, bytes-four, bytes-filled, check-small}
-use Rattle.blocks.proofs.Block.{length-four, length-filled, length-front, check-front}
-use Rattle.blocks.proofs.Differs.{sealed-right}
+use Rattle.fileblocks.proofs.FileBlock.{length-four, length-filled, length-front, check-front}
+use Rattle.fileblocks.proofs.Differs.{sealed-right}
 
 -- a number that was written is read
 pub four-read : (n : ℕ) (rest : List ℕ) → n < 4294967296 → fourAt (four n ++ rest) 0 ≡ n
@@ -57,22 +57,22 @@ four-back l k b h = sym (ap four (sym (four-drop l k 4 (omega arith))) ∙ four-
 
 -- the parts of a block that is laid down
 module _ (k : ℕ) (bytes : List ℕ) where
-  pub block-contents : contents (blockOf k bytes) ≡ filled bytes
-  unfolding contents blockOf sealed
-  block-contents =
+  pub file-block-contents : contents (fileBlockOf k bytes) ≡ filled bytes
+  unfolding contents fileBlockOf sealed
+  file-block-contents =
       ap (λ l. take 504 (drop 4 l)) (append-assoc (four k) (filled bytes) (four (checkOf (four k ++ filled bytes))))
       ∙ ap (take 504) (drop-at (four k) (filled bytes ++ four (checkOf (four k ++ filled bytes))) 4 (length-four k))
       ∙ take-at (filled bytes) (four (checkOf (four k ++ filled bytes))) 504 (length-filled bytes)
 
-  block-number : k < 4294967296 → fourAt (blockOf k bytes) 0 ≡ k
-  unfolding blockOf sealed
-  block-number h =
+  file-block-number : k < 4294967296 → fourAt (fileBlockOf k bytes) 0 ≡ k
+  unfolding fileBlockOf sealed
+  file-block-number h =
       ap (λ l. fourAt l 0) (append-assoc (four k) (filled bytes) (four (checkOf (four k ++ filled bytes))))
       ∙ four-read k (filled bytes ++ four (checkOf (four k ++ filled bytes))) h
 
-  block-check : UpTo 255 bytes → fourAt (blockOf k bytes) 508 ≡ checkOf (blockOf k bytes)
-  unfolding blockOf sealed
-  block-check b =
+  file-block-check : UpTo 255 bytes → fourAt (fileBlockOf k bytes) 508 ≡ checkOf (fileBlockOf k bytes)
+  unfolding fileBlockOf sealed
+  file-block-check b =
       let front = four k ++ filled bytes in
       let check = checkOf front in
       let small = check-small front (bytes-append (four k) (filled bytes) (bytes-four k) (bytes-filled bytes b)) in
@@ -82,16 +82,16 @@ module _ (k : ℕ) (bytes : List ℕ) where
       ∙ four-read check [] small
       ∙ sym (check-front front (four check) (length-front k bytes))
 
-  block-filling : (size : ℕ) → length bytes ≤ size → allZero (drop size (filled bytes)) ≡ true
+  file-block-filling : (size : ℕ) → length bytes ≤ size → allZero (drop size (filled bytes)) ≡ true
   unfolding filled
-  block-filling size l = all-zero-behind size (take 504 bytes) (504 - length bytes) (simp length-take (omega arith))
+  file-block-filling size l = all-zero-behind size (take 504 bytes) (504 - length bytes) (simp length-take (omega arith))
 
-  pub block-passes : (size : ℕ) → k < 4294967296 → UpTo 255 bytes → length bytes ≤ size → Passes (blockTests k size (blockOf k bytes))
-  unfolding blockTests
-  block-passes size h b l =
+  pub file-block-passes : (size : ℕ) → k < 4294967296 → UpTo 255 bytes → length bytes ≤ size → Passes (fileBlockTests k size (fileBlockOf k bytes))
+  unfolding fileBlockTests
+  file-block-passes size h b l =
       both
-      (sound (ap not (sealed-right k (blockOf k bytes) .1 (block-number h, block-check b))))
-      (sound (ap (λ x. not (allZero (drop size x))) block-contents ∙ ap not (block-filling size l)))
+      (sound (ap not (sealed-right k (fileBlockOf k bytes) .1 (file-block-number h, file-block-check b))))
+      (sound (ap (λ x. not (allZero (drop size x))) file-block-contents ∙ ap not (file-block-filling size l)))
 
 -- bytes whose rest is zero are their front, filled up
 filled-front : (l : List ℕ) (size : ℕ) → length l ≡ 504 → allZero (drop size l) ≡ true → l ≡ filled (take size l)
@@ -102,9 +102,9 @@ filled-front l size e z =
     sym (take-append-drop size l) ∙ rw (take-all 504 (take size l) short, ← rest, ← all-zero-replicate (drop size l) z)
 
 -- a block that passes is the block that is laid down
-pub block-is : (k size : ℕ) (block : List ℕ) → length block ≡ 512 → UpTo 255 block → Passes (blockTests k size block) → block ≡ blockOf k (take size (contents block))
-unfolding blockTests blockOf sealed contents
-block-is k size block l b p =
+pub file-block-is : (k size : ℕ) (block : List ℕ) → length block ≡ 512 → UpTo 255 block → Passes (fileBlockTests k size block) → block ≡ fileBlockOf k (take size (contents block))
+unfolding fileBlockTests fileBlockOf sealed contents
+file-block-is k size block l b p =
     let (number, check) = sealed-right k block .0 (not-false _ (passes-when (passes-first p))) in
     let inner : length (take 504 (drop 4 block)) ≡ 504 = simp (length-take, length-drop) (omega arith) in
     let held = filled-front (contents block) size inner (not-false _ (passes-when (passes-then p))) in

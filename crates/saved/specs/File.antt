@@ -6,8 +6,8 @@ use lib.Dec.{eqb}
 use lib.ListN.{length, getD, take, drop}
 use Rattle.scope.specs.declared.Run.{Run}
 use Rattle.scope.specs.Run.{cellsOf}
-use Rattle.scope.specs.Refusal.{Tests, _when_, _andThen_, nothing, runTests, Room, Blocks, Layout}
-use Rattle.blocks.specs.Block.{four, fourAt, blockOf, contents, allZero, blockTests}
+use Rattle.scope.specs.Refusal.{Tests, _when_, _andThen_, nothing, runTests, Room, FileBlocks, Layout}
+use Rattle.fileblocks.specs.FileBlock.{four, fourAt, fileBlockOf, contents, allZero, fileBlockTests}
 
 -- "Block 0: byte 4 = 1 (version), 5-7 zero, then four 32-bit numbers at 8, 12, 16, 20: window, interval, first line, last line".
 unfoldable pub heading : Run → List ℕ
@@ -19,24 +19,24 @@ firstJoined lists zero = []
 firstJoined lists (suc k) = firstJoined lists k ++ lists k
 
 -- "Later blocks: 504 cells each .. in cell order", one byte a cell: blocks 1 to n.
-unfoldable pub cellBlocks : List ℕ → ℕ → List ℕ
-cellBlocks cells = firstJoined λ k. blockOf (suc k) (drop (504 * k) cells)
+unfoldable pub laterFileBlocks : List ℕ → ℕ → List ℕ
+laterFileBlocks cells = firstJoined λ k. fileBlockOf (suc k) (drop (504 * k) cells)
 
 -- How many of these so many bytes of cells need: one for each 504 begun.
-unfoldable pub blocksFor : ℕ → ℕ
-blocksFor size = (size + 503) / 504
+unfoldable pub fileBlocksFor : ℕ → ℕ
+fileBlocksFor size = (size + 503) / 504
 
 -- How long the file then is, with block 0.
 unfoldable pub fileLength : ℕ → ℕ
-fileLength size = 512 * (1 + blocksFor size)
+fileLength size = 512 * (1 + fileBlocksFor size)
 
 -- The file of a run and its map. "Nothing follows."
 unfoldable pub fileOf : Run → List ℕ → List ℕ
-fileOf run map = blockOf 0 (heading run) ++ cellBlocks map (blocksFor (cellsOf run))
+fileOf run map = fileBlockOf 0 (heading run) ++ laterFileBlocks map (fileBlocksFor (cellsOf run))
 
 -- Block k of a file.
-unfoldable pub blockAt : List ℕ → ℕ → List ℕ
-blockAt file k = take 512 (drop (512 * k) file)
+unfoldable pub fileBlockAt : List ℕ → ℕ → List ℕ
+fileBlockAt file k = take 512 (drop (512 * k) file)
 
 -- The run that a file's block 0 tells.
 unfoldable pub runOf : List ℕ → Run
@@ -44,11 +44,11 @@ runOf file = record { window = fourAt file 8; interval = fourAt file 12; first =
 
 -- What blocks 1 to n of a file hold.
 unfoldable pub bytesIn : List ℕ → ℕ → List ℕ
-bytesIn file = firstJoined λ k. contents (blockAt file (suc k))
+bytesIn file = firstJoined λ k. contents (fileBlockAt file (suc k))
 
 -- The map that a file tells: the cells of its run.
 unfoldable pub mapOf : List ℕ → List ℕ
-mapOf file = let cells = cellsOf (runOf file) in take cells (bytesIn file (blocksFor cells))
+mapOf file = let cells = cellsOf (runOf file) in take cells (bytesIn file (fileBlocksFor cells))
 
 -- "Saving: 1, 2, 3, 9". "9: .. map or file room not of the exact length".
 unfoldable pub savingTests : Run → List ℕ → List ℕ → Tests
@@ -60,26 +60,26 @@ savingTests run map file =
 -- "block 0 for 14 and 15": its number and check; bytes 24-507 zero, version 1, bytes 5-7 zero.
 unfoldable pub headingTests : List ℕ → Tests
 headingTests block =
-    blockTests 0 20 block andThen
+    fileBlockTests 0 20 block andThen
     Layout when not (eqb (getD block 4 0) 1) andThen
     Layout when not (allZero (take 3 (drop 5 block)))
 
 -- "the other blocks in order, 14 before 15 in each": blocks 1 to n of a file with so many bytes of cells.
-unfoldable pub cellBlocksTests : ℕ → List ℕ → ℕ → Tests
-cellBlocksTests size file zero = nothing
-cellBlocksTests size file (suc k) = cellBlocksTests size file k andThen blockTests (suc k) (size - 504 * k) (blockAt file (suc k))
+unfoldable pub laterFileBlocksTests : ℕ → List ℕ → ℕ → Tests
+laterFileBlocksTests size file zero = nothing
+laterFileBlocksTests size file (suc k) = laterFileBlocksTests size file k andThen fileBlockTests (suc k) (size - 504 * k) (fileBlockAt file (suc k))
 
 -- "Reading: 13 for whole blocks, then block 0 for 14 and 15, then 1, 2, 3, 13 for the count, then the other blocks".
 unfoldable pub fileTests : List ℕ → Tests
 fileTests file =
     let run = runOf file in
     let cells = cellsOf run in
-    Blocks when not (eqb (length file % 512) 0) andThen
-    Blocks when eqb (length file) 0 andThen
-    headingTests (blockAt file 0) andThen
+    FileBlocks when not (eqb (length file % 512) 0) andThen
+    FileBlocks when eqb (length file) 0 andThen
+    headingTests (fileBlockAt file 0) andThen
     runTests run andThen
-    Blocks when not (eqb (length file) (fileLength cells)) andThen
-    cellBlocksTests cells file (blocksFor cells)
+    FileBlocks when not (eqb (length file) (fileLength cells)) andThen
+    laterFileBlocksTests cells file (fileBlocksFor cells)
 
 -- "then 9".
 unfoldable pub readingTests : List ℕ → List ℕ → Tests

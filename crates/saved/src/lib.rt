@@ -1,12 +1,12 @@
 // The saved map of document 01: a file of blocks of 512 bytes, each with its number before its contents and its check behind.
 // Every function is proved. `save` and `read` are the public operations; the others are inner steps of these.
-use blocks::BLOCK;
-use blocks::copy;
-use blocks::four_at;
-use blocks::judge_block;
-use blocks::put_four;
-use blocks::write_block;
-use blocks::zeros_from;
+use fileblocks::FILE_BLOCK;
+use fileblocks::copy;
+use fileblocks::four_at;
+use fileblocks::judge_file_block;
+use fileblocks::put_four;
+use fileblocks::write_file_block;
+use fileblocks::zeros_from;
 use scope::Run;
 use scope::Verdict;
 ghost use mathlib.Core.Path.{_≡_};
@@ -15,8 +15,8 @@ ghost use lib.ListN.{length, take};
 ghost use Rattle.scope.specs.Refusal.{complaint};
 ghost use Rattle.scope.specs.Reply.{reply};
 ghost use Rattle.scope.specs.InnerVerdict.{verdict};
-ghost use Rattle.blocks.specs.Block.{four, blockOf};
-ghost use Rattle.saved.specs.File.{heading, cellBlocks, blocksFor, fileLength, runOf, bytesIn, headingTests, cellBlocksTests, fileTests};
+ghost use Rattle.fileblocks.specs.FileBlock.{four, fileBlockOf};
+ghost use Rattle.saved.specs.File.{heading, laterFileBlocks, fileBlocksFor, fileLength, runOf, bytesIn, headingTests, laterFileBlocksTests, fileTests};
 ghost use Rattle.saved.specs.Promise.{saysReading, SavingPromise, ReadingPromise};
 
 // What saving a map came to.
@@ -56,7 +56,7 @@ pub fn file_length(size: u64) -> u64
 // Writes block 0: the version, three spare bytes and the run's four numbers, as the twenty bytes that it holds.
 fn write_heading(run: Run, block: &mut [u8])
     requires { ⌜ length (now block) ≡ 512 ⌝ }
-    ensures { λ _. ⌜ now (block .exit) ≡ blockOf 0 (heading run) ⌝ }
+    ensures { λ _. ⌜ now (block .exit) ≡ fileBlockOf 0 (heading run) ⌝ }
 {
     let mut bytes = [0u8; 20];
     bytes[0] = 1;
@@ -64,21 +64,21 @@ fn write_heading(run: Run, block: &mut [u8])
     put_four(&mut bytes[8..12], run.interval);
     put_four(&mut bytes[12..16], run.first);
     put_four(&mut bytes[16..20], run.last);
-    write_block(0, &bytes, block);
+    write_file_block(0, &bytes, block);
 }
 
 // Inner step. Writes the blocks after block 0: 504 cells each, the last perhaps with fewer. Each turn writes one whole block.
 pub fn write_cells(map: &[u8], room: &mut [u8])
-    requires { ⌜ (length (now map) < 2 ^ 37) × (length (now room) ≡ 512 * blocksFor (length (now map))) ⌝ }
-    ensures { λ _. ⌜ now (room .exit) ≡ cellBlocks (now (map .entry)) (blocksFor (length (now (map .entry)))) ⌝ }
+    requires { ⌜ (length (now map) < 2 ^ 37) × (length (now room) ≡ 512 * fileBlocksFor (length (now map))) ⌝ }
+    ensures { λ _. ⌜ now (room .exit) ≡ laterFileBlocks (now (map .entry)) (fileBlocksFor (length (now (map .entry)))) ⌝ }
 {
     let mut k: usize = 0;
     while CONTENTS * k < map.len() {
         let from = CONTENTS * k;
         let end = least(from + CONTENTS, map.len());
-        let at = BLOCK * k;
-        let next = at + BLOCK;
-        write_block((k + 1) as u32, &map[from..end], &mut room[at..next]);
+        let at = FILE_BLOCK * k;
+        let next = at + FILE_BLOCK;
+        write_file_block((k + 1) as u32, &map[from..end], &mut room[at..next]);
         k += 1;
     }
 }
@@ -100,8 +100,8 @@ pub fn save(run: Run, map: &[u8], file: &mut [u8]) -> Saved
         return Saved::Refused(9);
     }
     let end = file.len();
-    write_heading(run, &mut file[0..BLOCK]);
-    write_cells(map, &mut file[BLOCK..end]);
+    write_heading(run, &mut file[0..FILE_BLOCK]);
+    write_cells(map, &mut file[FILE_BLOCK..end]);
     Saved::Done
 }
 
@@ -110,7 +110,7 @@ fn judge_heading(block: &[u8]) -> Verdict
     requires { ⌜ length (now block) ≡ 512 ⌝ }
     ensures { λ r. ⌜ r ≡ verdict (complaint (headingTests (now (block .entry)))) ⌝ }
 {
-    if let Verdict::Refused(number) = judge_block(0, 20, block) {
+    if let Verdict::Refused(number) = judge_file_block(0, 20, block) {
         return Verdict::Refused(number);
     }
     if block[4] != 1 {
@@ -125,13 +125,13 @@ fn judge_heading(block: &[u8]) -> Verdict
 // What 01's table says of the blocks after block 0, in order, if they are to hold `size` bytes of cells.
 fn judge_cells(size: usize, file: &[u8]) -> Verdict
     requires { ⌜ (size < 2 ^ 37) × (length (now file) ≡ fileLength size) ⌝ }
-    ensures { λ r. ⌜ r ≡ verdict (complaint (cellBlocksTests size (now (file .entry)) (blocksFor size))) ⌝ }
+    ensures { λ r. ⌜ r ≡ verdict (complaint (laterFileBlocksTests size (now (file .entry)) (fileBlocksFor size))) ⌝ }
 {
     let mut k: usize = 0;
     while CONTENTS * k < size {
-        let at = BLOCK * (k + 1);
-        let next = at + BLOCK;
-        if let Verdict::Refused(number) = judge_block(
+        let at = FILE_BLOCK * (k + 1);
+        let next = at + FILE_BLOCK;
+        if let Verdict::Refused(number) = judge_file_block(
             (k + 1) as u32,
             size - CONTENTS * k,
             &file[at..next],
@@ -161,13 +161,13 @@ pub fn run_of(file: &[u8]) -> Run
 fn judge_file(file: &[u8]) -> Loaded
     ensures { λ r. ⌜ saysReading r ≡ reply (complaint (fileTests (now (file .entry)))) (runOf (now (file .entry))) ⌝ }
 {
-    if file.len() % BLOCK != 0 {
+    if file.len() % FILE_BLOCK != 0 {
         return Loaded::Refused(13);
     }
     if file.len() == 0 {
         return Loaded::Refused(13);
     }
-    if let Verdict::Refused(number) = judge_heading(&file[0..BLOCK]) {
+    if let Verdict::Refused(number) = judge_heading(&file[0..FILE_BLOCK]) {
         return Loaded::Refused(number);
     }
     let run = run_of(file);
@@ -187,13 +187,13 @@ fn judge_file(file: &[u8]) -> Loaded
 // Fills a map with the cells that the blocks after block 0 hold: 504 a block, of the last as many as are left.
 fn load(file: &[u8], map: &mut [u8])
     requires { ⌜ (length (now map) < 2 ^ 37) × (length (now file) ≡ fileLength (length (now map))) ⌝ }
-    ensures { λ _. ⌜ now (map .exit) ≡ take (length (now (map .entry))) (bytesIn (now (file .entry)) (blocksFor (length (now (map .entry))))) ⌝ }
+    ensures { λ _. ⌜ now (map .exit) ≡ take (length (now (map .entry))) (bytesIn (now (file .entry)) (fileBlocksFor (length (now (map .entry))))) ⌝ }
 {
     let mut k: usize = 0;
     while CONTENTS * k < map.len() {
         let from = CONTENTS * k;
         let end = least(from + CONTENTS, map.len());
-        let at = BLOCK * (k + 1) + 4;
+        let at = FILE_BLOCK * (k + 1) + 4;
         let next = at + (end - from);
         copy(&file[at..next], &mut map[from..end]);
         k += 1;

@@ -33,7 +33,7 @@ pub data Reason : Type 0 where
   -- "text: more than 64 sources, or a run of more than 65,536 cells"
   TooMany : Reason
   -- "saved file: no whole number of blocks, none, or not as many as its run needs"
-  Blocks : Reason
+  FileBlocks : Reason
   -- "saved file: wrong block number or check"
   Check : Reason
   -- "saved file: version, spare byte or filling not as laid down"
@@ -53,7 +53,7 @@ number Room = 9
 number Lists = 10
 number Text = 11
 number TooMany = 12
-number Blocks = 13
+number FileBlocks = 13
 number Check = 14
 number Layout = 15
 

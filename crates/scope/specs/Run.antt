@@ -2,10 +2,9 @@
 use Prim.Native.Nat.{ℕ, suc, _+_, _-_, _*_, _/_, _%_, _≤_, _<_}
 use mathlib.Core.Path.{_≡_}
 use mathlib.Core.Logic.{_⊎_}
-use mathlib.Core.List.{List}
 use lib.IntN.{ℤ, pos, negℤ, _+ℤ_, _-ℤ_, _*ℤ_}
 use lib.Signed.{_≤ℤ_, _<ℤ_}
-use lib.ListN.{getD}
+pub use Rattle.rooms.specs.Lists.{UpTo}
 use Rattle.scope.specs.declared.Run.{Run}
 use Rattle.scope.specs.declared.Source.{Source}
 use Rattle.scope.specs.declared.RunCell.{RunCell}
@@ -30,10 +29,6 @@ pub record ValidSource (source : Source) : Type 0 where
 -- The same table: "weight: 1 to 255"; and "the smaller of 255 and old value + weights". No weight and no cell of a map is above it.
 abbrev pub ceiling : ℕ
 ceiling = 255
-
--- No number of the list is above n.
-abbrev pub UpTo : ℕ → List ℕ → Type 0
-UpTo n numbers = (k : ℕ) → getD numbers k 0 ≤ n
 
 -- "a first line and a last line": both belong to the run.
 unfoldable pub linesOf : Run → ℕ

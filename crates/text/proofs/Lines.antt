@@ -9,8 +9,8 @@ use mathlib.Core.List.{List, [], _∷_, _++_, append-assoc}
 use native.Mathlib.Numerals.{add-one}
 use lib.ListN.{length, take, drop, getD, set, length-set, length-append, length-drop, drop-of-length-le}
 use lib.Seq.{drop-append-seam, take-suc, drop-cons, split-at, take-all, set-at}
-use Rattle.decimal.specs.Digits.{digits, beginsWithDigit}
-use Rattle.decimal.specs.Promise.{NumberStands}
+use Rattle.decimal.specs.Digits.{digits}
+use Rattle.decimal.specs.Inner.{beginsWithDigit, NumberStands}
 use Rattle.decimal.proofs.Laws.{digits-split}
 use Rattle.decimal.proofs.Readings.{stands}
 use Rattle.scope.specs.declared.Run.{Run}

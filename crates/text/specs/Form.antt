@@ -1,9 +1,9 @@
 -- Document 01, "The list program": the text that it reads. A text is a list of bytes.
-use Prim.Native.Nat.{ℕ, _≤_, _<_, _^_}
+use Prim.Native.Nat.{ℕ, _≤_}
 use mathlib.Core.Path.{_≡_}
 use mathlib.Core.List.{List, [], _∷_, _++_}
 use lib.ListN.{length}
-use Rattle.decimal.specs.Digits.{digits}
+use Rattle.decimal.specs.Digits.{largest, digits}
 use Rattle.scope.specs.declared.Run.{Run}
 use Rattle.sources.specs.Entry.{Entry}
 
@@ -19,7 +19,7 @@ line word numbers = word ++ fields numbers
 -- "decimal numbers up to 4,294,967,295".
 abbrev pub Small : List ℕ → Type 0
 Small [] = Unit {0}
-Small (n ∷ numbers) = (n < 2 ^ 32) × Small numbers
+Small (n ∷ numbers) = (n ≤ largest) × Small numbers
 
 -- The word `run`.
 abbrev pub runWord : List ℕ

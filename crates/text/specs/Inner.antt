@@ -1,12 +1,13 @@
 -- What the inner steps of reading answer, each at a place of the text: the place after what stands there, or the refusal where nothing of the kind does.
 -- A refusal carries its number from where it arises, and each step hands it on.
-use Prim.Native.Nat.{ℕ, _+_, _≤_, _<_, _^_}
+use Prim.Native.Nat.{ℕ, _+_, _≤_, _<_}
 use mathlib.Core.Path.{_≡_}
 use mathlib.Core.Bool.{false}
 use mathlib.Core.List.{List, [], _∷_, _++_}
 use mathlib.Core.Option.{none}
 use lib.ListN.{length, drop, getD, set}
-use Rattle.decimal.specs.Digits.{digits, beginsWithDigit}
+use Rattle.decimal.specs.Digits.{largest, digits}
+use Rattle.decimal.specs.Inner.{beginsWithDigit}
 use Rattle.scope.specs.declared.Run.{Run}
 use Rattle.scope.specs.Refusal.{Text, number}
 use Rattle.sources.specs.Entry.{Entry}
@@ -36,13 +37,13 @@ WordAt text at word (Refused n) = NotOfForm n × NoWord text at word
 
 -- A space and the number v stand at `at`, up to `next`, where no digit follows.
 pub record Field (text : List ℕ) (at v next : ℕ) : Type 0 where
-  pub small : v < 2 ^ 32
+  pub small : v ≤ largest
   pub stands : Spelled text at (32 ∷ digits v) next
   pub ended : beginsWithDigit (drop next text) ≡ false
 
 -- No space with a number that no digit follows stands there.
 pub record NoField (text : List ℕ) (at : ℕ) : Type 0 where
-  pub none : (v : ℕ) (rest : List ℕ) → v < 2 ^ 32 → beginsWithDigit rest ≡ false → drop at text ≡ (32 ∷ digits v) ++ rest → ⊥
+  pub none : (v : ℕ) (rest : List ℕ) → v ≤ largest → beginsWithDigit rest ≡ false → drop at text ≡ (32 ∷ digits v) ++ rest → ⊥
 
 -- A space and a number stand at `at`, up to `next`, and the room has the number at k.
 pub record FieldStored (text : List ℕ) (at : ℕ) (room : List ℕ) (k : ℕ) (room′ : List ℕ) (next : ℕ) : Type 0 where

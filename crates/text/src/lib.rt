@@ -5,7 +5,7 @@ use scope::Run;
 use scope::Verdict;
 ghost use mathlib.Core.Path.{_≡_};
 ghost use lib.Dec.{ltb};
-ghost use lib.ListN.{length, set};
+ghost use lib.ListN.{length};
 ghost use Rattle.scope.specs.Refusal.{_when_, TooMany, complaint};
 ghost use Rattle.scope.specs.InnerVerdict.{verdict};
 ghost use Rattle.text.specs.Promise.{refusal, TextPromise};
@@ -64,15 +64,6 @@ fn read_word(text: &[u8], at: usize, word: &[u8]) -> Found
     Found::Next(next)
 }
 
-// Stores a number at a place of a room that has the place, and nothing elsewhere.
-fn put(room: &mut [u32], k: usize, number: u32)
-    ensures { λ _. ⌜ now (room .exit) ≡ set (now (room .entry)) k number ⌝ }
-{
-    if k < room.len() {
-        room[k] = number;
-    }
-}
-
 // The place after a space and a number, which goes into the room at k.
 fn read_field(text: &[u8], at: usize, room: &mut [u32], k: usize) -> Found
     ensures { λ r. ⌜ FieldAt (now (text .entry)) at (now (room .entry)) k (now (room .exit)) r ⌝ }
@@ -84,7 +75,7 @@ fn read_field(text: &[u8], at: usize, room: &mut [u32], k: usize) -> Found
     let Number::Value(number, next) = decimal::read_number(text, start) else {
         return Found::Refused(FORM);
     };
-    put(room, k, number);
+    rooms::put(room, k, number);
     Found::Next(next)
 }
 
@@ -118,8 +109,8 @@ fn read_source(text: &[u8], at: usize, periods: &mut [u32], weights: &mut [u32],
     let Found::Next(next) = line else {
         return line;
     };
-    put(periods, k, numbers[0]);
-    put(weights, k, numbers[1]);
+    rooms::put(periods, k, numbers[0]);
+    rooms::put(weights, k, numbers[1]);
     Found::Next(next)
 }
 

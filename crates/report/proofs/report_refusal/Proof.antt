@@ -5,9 +5,10 @@ use mathlib.Core.List.{[], _∷_}
 use lib.ListN.{length}
 use Rattle.text.specs.Form.{line}
 use Rattle.report.specs.Report.{refusedWord}
-use Rattle.report.proofs.Writing.{written-same}
+use Rattle.rooms.proofs.Writing.{written-same}
+use Rattle.rooms.proofs.Lists.{length-zeros}
 use Rattle.report.proofs.Longest.{line-long}
-use Rattle.report.proofs.Outputs.{blank-long, prints}
+use Rattle.report.proofs.Outputs.{prints}
 use borrow.Author.Needs.{needs}
 use Rattle.report.proofs.report_refusal.Statement.{statement}
 use Rattle.report.proofs.report_refusal.Tie as tie
@@ -35,7 +36,7 @@ write-line-requires c κs =
       arith,
       line-long refusedWord (told .wide .result ∷ []) (omega (arith, told .wide .ensures), tt),
       ap length (told .before .blank .ensures),
-      blank-long,
+      length-zeros 921600,
     )
 
 returns : tie.Need-returns

@@ -4,7 +4,8 @@ use Prim.Native.Nat.{_-_}
 use mathlib.Core.Path.{_∙_}
 use borrow.Author.Needs.{needs}
 use lib.ListN.{length}
-use Rattle.report.proofs.Writing.{Numbers, Spaced, writing-long, space-fits, space-written, number-fits, number-written, newline-fits, newline-written, word-fits, word-written, line-written}
+use Rattle.report.proofs.Writing.{Numbers, Spaced, space-fits, space-written, number-fits, number-written, newline-fits, newline-written, word-fits, word-written, line-written}
+use Rattle.rooms.proofs.Writing.{writing-long}
 use Rattle.report.proofs.write_line.Statement.{statement}
 use Rattle.report.proofs.write_line.Tie as tie
 

@@ -3,7 +3,7 @@ use mathlib.Core.Path.{_≡_, ap}
 use mathlib.Core.List.{[], _∷_, _++_}
 use Rattle.text.specs.Form.{line, runWord, runNumbers}
 use Rattle.report.specs.Report.{runReport}
-use Rattle.report.proofs.Writing.{written-same, fits-same}
+use Rattle.rooms.proofs.Writing.{written-same, fits-same}
 use borrow.Author.Needs.{needs}
 use Rattle.report.proofs.write_run.Statement.{statement}
 use Rattle.report.proofs.write_run.Tie as tie

@@ -3,7 +3,7 @@ use mathlib.Core.Path.{_≡_, ap}
 use mathlib.Core.List.{[], _∷_}
 use Rattle.text.specs.Form.{line, srcWord}
 use Rattle.report.specs.Report.{entryReport}
-use Rattle.report.proofs.Writing.{written-same, fits-same}
+use Rattle.rooms.proofs.Writing.{written-same, fits-same}
 use borrow.Author.Needs.{needs}
 use Rattle.report.proofs.write_source.Statement.{statement}
 use Rattle.report.proofs.write_source.Tie as tie

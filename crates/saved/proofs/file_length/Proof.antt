@@ -1,7 +1,7 @@
 -- `saved::file_length` meets its contract: it is the definition, and far below 2^64. Assumes nothing.
 use borrow.Author.Needs.{needs}
 use mathlib.Core.Path.{refl}
-use Rattle.saved.specs.File.{fileLength, blocksFor}
+use Rattle.saved.specs.File.{fileLength, fileBlocksFor}
 use Rattle.saved.proofs.file_length.Statement.{statement}
 use Rattle.saved.proofs.file_length.Tie as tie
 
@@ -15,7 +15,7 @@ mul-result : tie.Need-mul-result
 mul-result c = search needs
 
 returns : tie.Need-returns
-unfolding fileLength blocksFor
+unfolding fileLength fileBlocksFor
 returns c = refl
 
 pub file-length-spec : {M : Type 1} → statement M

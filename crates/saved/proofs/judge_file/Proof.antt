@@ -9,34 +9,34 @@ use mathlib.Core.List.{List}
 use lib.Dec.{eqb}
 use lib.ListN.{length}
 use Rattle.scope.specs.Run.{ValidRun, cellsOf}
-use Rattle.scope.specs.Refusal.{Tests, _when_, _andThen_, Blocks, number, complaint, runTests}
+use Rattle.scope.specs.Refusal.{Tests, _when_, _andThen_, FileBlocks, number, complaint, runTests}
 use Rattle.scope.specs.Reply.{answered}
 use Rattle.scope.specs.InnerVerdict.{verdict}
 use Rattle.scope.proofs.Judged.{Passes, broken, sound, first, then, both, fine, blamed, refuse-reply, grant-reply}
 use Rattle.scope.proofs.Limits.{valid-run, cells-few}
-use Rattle.saved.specs.File.{blocksFor, fileLength, blockAt, runOf, headingTests, cellBlocksTests, fileTests}
-use Rattle.blocks.proofs.Differs.{differs, agrees}
+use Rattle.saved.specs.File.{fileBlocksFor, fileLength, fileBlockAt, runOf, headingTests, laterFileBlocksTests, fileTests}
+use Rattle.fileblocks.proofs.Differs.{differs, agrees}
 use Rattle.saved.proofs.judge_file.Statement.{statement}
 use Rattle.saved.proofs.judge_file.Tie as tie
 
 -- the tests up to those of block 0, of the run, of the count
 abbrev toHeading : List ℕ → Tests
-toHeading file = Blocks when not (eqb (length file % 512) 0) andThen Blocks when eqb (length file) 0 andThen headingTests (blockAt file 0)
+toHeading file = FileBlocks when not (eqb (length file % 512) 0) andThen FileBlocks when eqb (length file) 0 andThen headingTests (fileBlockAt file 0)
 
 abbrev toRun : List ℕ → Tests
 toRun file = toHeading file andThen runTests (runOf file)
 
 abbrev toCount : List ℕ → Tests
-toCount file = toRun file andThen Blocks when not (eqb (length file) (fileLength (cellsOf (runOf file))))
+toCount file = toRun file andThen FileBlocks when not (eqb (length file) (fileLength (cellsOf (runOf file))))
 
-whole : (c : tie.Else1) → Passes (Blocks when not (eqb (length (c .before .before .args .file .now) % 512) 0))
+whole : (c : tie.Else1) → Passes (FileBlocks when not (eqb (length (c .before .before .args .file .now) % 512) 0))
 whole c = sound (agrees refl refl (c .if1 .left))
 
-some : (c : tie.Else2) → Passes (Blocks when not (eqb (length (c .before .before .before .args .file .now) % 512) 0) andThen Blocks when eqb (length (c .before .before .before .args .file .now)) 0)
+some : (c : tie.Else2) → Passes (FileBlocks when not (eqb (length (c .before .before .before .args .file .now) % 512) 0) andThen FileBlocks when eqb (length (c .before .before .before .args .file .now)) 0)
 some c = both (whole (c .before)) (sound (ne-eqb _ _ (c .if2 .left)))
 
 headed : (c : tie.After-enum-told) → Passes (toHeading (c .before .before .before .before .before .before .before .args .file .now))
-unfolding blockAt
+unfolding fileBlockAt
 headed c = both (some (c .before .before .before .before)) (fine (c .before .before .judge-heading .ensures) (c .enum-told .given .1))
 
 -- what was found of the run
@@ -60,7 +60,7 @@ counted : (c : tie.Else3) → Passes (toCount (c .before .before .before .before
 counted c = both (limited (c .before .before .before)) (sound (agrees refl (length-told (c .before)) (sym (c .if3 .left))))
 
 -- what was found of the blocks after block 0
-cells-judged : (c : tie.After-judge-cells) → let file = c .before .before .before .before .before .before .before .before .before .before .before .before .before .before .before .args .file .now in c .judge-cells .result ≡ verdict (complaint (cellBlocksTests (cellsOf (runOf file)) file (blocksFor (cellsOf (runOf file)))))
+cells-judged : (c : tie.After-judge-cells) → let file = c .before .before .before .before .before .before .before .before .before .before .before .before .before .before .before .args .file .now in c .judge-cells .result ≡ verdict (complaint (laterFileBlocksTests (cellsOf (runOf file)) file (fileBlocksFor (cellsOf (runOf file)))))
 cells-judged c = rw (cells-told (c .before .before .before)) at (c .judge-cells .ensures)
 
 returns : tie.Need-returns
@@ -87,7 +87,7 @@ enum-known-number : tie.Need-enum-known-number
 enum-known-number c = search needs
 
 returns-3 : tie.Need-returns-3
-unfolding fileTests blockAt
+unfolding fileTests fileBlockAt
 returns-3 c = refuse-reply _ (first (first (first (then (some (c .before .before .before .before .before)) (blamed (c .before .before .before .judge-heading .ensures) (c .before .number .given .1))))))
 
 enum-told : tie.Need-enum-told

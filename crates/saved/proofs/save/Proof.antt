@@ -12,12 +12,12 @@ use Rattle.scope.specs.Run.{ValidRun, cellsOf}
 use Rattle.scope.specs.Refusal.{number, runTests}
 use Rattle.scope.proofs.Judged.{Passes, broken, sound, first, then, both, fine, blamed}
 use Rattle.scope.proofs.Limits.{valid-run, cells-few}
-use Rattle.blocks.specs.Block.{blockOf}
-use Rattle.saved.specs.File.{heading, cellBlocks, blocksFor, fileLength, fileOf, savingTests}
-use Rattle.blocks.proofs.Writing.{Written, written-none, written-part, written-length, written-all}
-use Rattle.blocks.proofs.Block.{length-block}
-use Rattle.saved.proofs.Cells.{length-cellBlocks}
-use Rattle.blocks.proofs.Differs.{differs, agrees}
+use Rattle.fileblocks.specs.FileBlock.{fileBlockOf}
+use Rattle.saved.specs.File.{heading, laterFileBlocks, fileBlocksFor, fileLength, fileOf, savingTests}
+use Rattle.fileblocks.proofs.Writing.{Written, written-none, written-part, written-length, written-all}
+use Rattle.fileblocks.proofs.FileBlock.{length-fileBlockOf}
+use Rattle.saved.proofs.Cells.{length-laterFileBlocks}
+use Rattle.fileblocks.proofs.Differs.{differs, agrees}
 use Rattle.saved.proofs.Promises.{refuse-saving, grant-saving}
 use Rattle.saved.proofs.save.Statement.{statement}
 use Rattle.saved.proofs.save.Tie as tie
@@ -42,23 +42,23 @@ admitted c =
     let e = c .before .before .before .cells .ensures in
     record { few = omega arith; cells = cells ∙ e; long = c .if2 .left ∙ c .before .file-length .ensures ∙ ap fileLength (sym cells) }
 
-module _ {run : Run} {map file part : List ℕ} (s : Admitted run map file) (head : part ≡ blockOf 0 (heading run)) where
+module _ {run : Run} {map file part : List ℕ} (s : Admitted run map file) (head : part ≡ fileBlockOf 0 (heading run)) where
   -- block 0 is written
   headed : Written file (putMid 0 512 file part) part 512
   unfolding fileLength
-  headed = let l = s .long in written-part 512 part (written-none file) (omega arith) (omega arith) (ap length head ∙ length-block 0 (heading run))
+  headed = let l = s .long in written-part 512 part (written-none file) (omega arith) (omega arith) (ap length head ∙ length-fileBlockOf 0 (heading run))
 
   -- the rest of the room is for the cells
-  rest-length : length (midOf 512 (length file - 512) (putMid 0 512 file part)) ≡ 512 * blocksFor (length map)
+  rest-length : length (midOf 512 (length file - 512) (putMid 0 512 file part)) ≡ 512 * fileBlocksFor (length map)
   unfolding fileLength
   rest-length = let w = written-length headed in let l = s .long in mid-len 512 (length file) (putMid 0 512 file part) (omega arith) ∙ omega arith
 
   -- the whole room is written
-  whole : {rest : List ℕ} → rest ≡ cellBlocks map (blocksFor (length map)) → putMid 512 (length file - 512) (putMid 0 512 file part) rest ≡ fileOf run map
+  whole : {rest : List ℕ} → rest ≡ laterFileBlocks map (fileBlocksFor (length map)) → putMid 512 (length file - 512) (putMid 0 512 file part) rest ≡ fileOf run map
   unfolding fileLength fileOf
   whole {rest} f =
       let l = s .long in
-      let many : length rest ≡ length file - 512 = ap length f ∙ length-cellBlocks map (blocksFor (length map)) ∙ omega arith in
+      let many : length rest ≡ length file - 512 = ap length f ∙ length-laterFileBlocks map (fileBlocksFor (length map)) ∙ omega arith in
       written-all (written-part (length file) rest headed (omega arith) (le-refl (length file)) many) refl ∙ rw (head, f, s .cells)
 
 judge-run-requires : tie.Need-judge-run-requires

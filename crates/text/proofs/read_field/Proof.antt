@@ -3,7 +3,7 @@ use mathlib.Core.Path.{refl, subst}
 use mathlib.Core.List.{[], _∷_}
 use borrow.Author.Needs.{needs}
 use Rattle.scope.specs.Refusal.{number}
-use Rattle.decimal.specs.Promise.{Reading}
+use Rattle.decimal.specs.Inner.{Reading}
 use Rattle.text.specs.Inner.{Spelled, WordAt, FieldAt}
 use Rattle.text.proofs.Lines.{hand-on, no-space, field-stands, field-bad}
 use Rattle.text.proofs.read_field.Statement.{statement}

@@ -5,8 +5,9 @@ use native.Mathlib.Omega.{arith}
 use borrow.Author.Needs.{needs}
 use borrow.Author.Tests.{ltb-false, lt-ltb, le-ltb}
 use lib.Dec.{ltb}
-use lib.ListN.{length, take, replicate}
+use lib.ListN.{length, take}
 use lib.Seq.{length-take-le}
+use Rattle.rooms.specs.Lists.{zeros}
 use Rattle.scope.specs.Run.{ceiling, cellsOf}
 use Rattle.scope.specs.Refusal.{_when_, _andThen_, TooMany, complaint, number, runTests}
 use Rattle.scope.specs.InnerVerdict.{verdict}
@@ -25,7 +26,8 @@ use Rattle.text.proofs.read_text.Tie as tie
 -- the lines that were read
 lines-read : (c : tie.After-enum-told)
     → let after = c .before .before .before .before .before .read-lines .last .1 in
-    AllLines (c .before .before .before .before .before .before .before .before .before .before .before .args .text .now) (after .0) (replicate 64 0) (replicate 64 0) (after .1 .0) (after .1 .1 .0) (after .1 .1 .1 .0) (c .enum-told .given .0 .0)
+    AllLines (c .before .before .before .before .before .before .before .before .before .before .before .args .text .now) (after .0) (zeros 64) (zeros 64) (after .1 .0) (after .1 .1 .0) (after .1 .1 .1 .0) (c .enum-told .given .0 .0)
+unfolding zeros
 lines-read c = subst (LinesAt _ _ _ _ _ _ _) (c .enum-told .given .1) (c .before .before .before .before .before .read-lines .ensures)
 
 -- the `run` line
