@@ -240,6 +240,16 @@ module _ {run : Run} (v : ValidRun run) {source : Source} (s : ValidSource sourc
   high-false : ltZ (toZ w64 (ofZ w64 (at .offset))) (toZ w64 (ofZ w64 (walk .high))) ≡ false → l .below ≤ at .cell .0 % run .window
   high-false t = let n = small v s l here in shifted-le (walk .high) (at .offset) (run .window / 2) high-is by-distance (ltZ-false (at .offset) (walk .high) (rw (held (at .offset) (n .offset), held (walk .high) (n .high)) at t))
 
+  -- the test whether the step to the left leads out of the window, as a caller makes it
+  pub out-true : ltZ (toZ w64 (ofZ w64 (at .offset))) (toZ w64 (ofZ w64 (walk .low))) ≡ true → at .offset <ℤ walk .low
+  out-true t = let n = small v s l here in ltZ-true (at .offset) (walk .low) (rw (held (at .offset) (n .offset), held (walk .low) (n .low)) at t)
+
+  pub out-false : ltZ (toZ w64 (ofZ w64 (at .offset))) (toZ w64 (ofZ w64 (walk .low))) ≡ false → at .offset <ℤ walk .low → ⊥
+  out-false t h =
+      let n = small v s l here in
+      let k = ltZ-false (at .offset) (walk .low) (rw (held (at .offset) (n .offset), held (walk .low) (n .low)) at t) in
+      omega (arith, parts)
+
   pub step-left : {to : LineHit} → leZ (toZ w64 (ofZ w64 (walk .low))) (toZ w64 (ofZ w64 (at .offset))) ≡ true → Moved at (walk .left) to → NextLine run source at to
   step-left {to} t m =
       let g = l .goes-left (at .cell .0 % run .window) distance-in (low-true t) in
