@@ -8,7 +8,7 @@ use lib.ListN.{length, drop, getD, drop-of-length-le}
 use lib.Seq.{drop-cons}
 use borrow.Author.Tests.{eq-eqb, ne-eqb}
 use Rattle.rooms.specs.InnerRooms.{Written}
-use Rattle.text.specs.Form.{line}
+use Rattle.words.specs.Line.{line}
 use Rattle.report.specs.Report.{mapWord, cellReport, mapReport, above}
 use Rattle.rooms.proofs.Writing.{Writing, piece-fits, writing-more, writing-ends}
 

@@ -7,27 +7,20 @@ use mathlib.Core.List.{List, [], _∷_, _++_}
 use lib.Dec.{eqb}
 use lib.ListN.{length, length-append}
 use Rattle.decimal.specs.Digits.{largest, digits}
-use Rattle.decimal.proofs.Laws.{length-le, length-32}
+use Rattle.decimal.proofs.Laws.{length-le}
+use Rattle.words.proofs.Writing.{line-long}
 use Rattle.scope.specs.declared.Run.{Run}
 use Rattle.rooms.specs.Lists.{UpTo, zeros}
 use Rattle.scope.specs.Run.{ValidRun, ceiling, cellsOf}
+use Rattle.scope.specs.Hit.{hitsFrom}
 use Rattle.sources.specs.Entry.{Entry, entriesOf}
-use Rattle.text.specs.Form.{fields, line, Small, srcWord, runWord, runNumbers}
+use Rattle.words.specs.Line.{fields, line}
+use Rattle.text.specs.Form.{srcWord, runWord, runNumbers}
 use Rattle.map.proofs.Entries.{ValidEntries, valid-entries, added-length, added-within}
 use Rattle.report.specs.Report.{mapWord, endWord, runReport, entryReport, srcReport, cellReport, mapReport, above, endReport, reportedMap, cellsReport, wholeReport}
 use Rattle.report.specs.Inner.{ValidInput}
-use Rattle.rooms.proofs.Lists.{length-zeros}
+use Rattle.rooms.proofs.Lists.{length-zeros, up-to}
 use Rattle.report.proofs.Sources.{hits-few}
-
--- a line of small numbers: 11 bytes each at most
-fields-long : (numbers : List ℕ) → Small numbers → length (fields numbers) ≤ 1 + 11 * length numbers
-unfolding fields
-fields-long [] s = omega arith
-fields-long (n ∷ numbers) s = omega (arith, fields-long numbers (s .1), length-32 n (s .0), length-append (digits n) (fields numbers))
-
-pub line-long : (word numbers : List ℕ) → Small numbers → length (line word numbers) ≤ length word + (1 + 11 * length numbers)
-unfolding line
-line-long word numbers s = omega (arith, fields-long numbers s, length-append word (fields numbers))
 
 -- ---- the sources
 
@@ -37,7 +30,7 @@ entry-long run k e few place v =
     let own = v .0 in
     let hits = hits-few run (e .source) in
     let s = own .source in
-    line-long srcWord _ (place, (omega (arith, s .fits), (omega (arith, own .fits), (omega arith, tt))))
+    line-long srcWord _ (up-to (k ∷ e .source .period ∷ e .weight ∷ length (hitsFrom run (e .source) 0) ∷ []) (place, (omega (arith, s .fits), (omega (arith, own .fits), (omega arith, tt)))))
 
 sources-long : (run : Run) (k : ℕ) (entries : List Entry) → cellsOf run ≤ 65536 → k + length entries ≤ 65536 → ValidEntries ceiling entries
     → length (srcReport run k entries) ≤ 48 * length entries
@@ -102,7 +95,8 @@ run-long : {run : Run} → ValidRun run → cellsOf run ≤ 65536 → length (ru
 unfolding runReport
 run-long {run} v few =
     line-long runWord (runNumbers run ++ (cellsOf run ∷ []))
-    (omega (arith, v .wide), (omega (arith, v .fits), (omega (arith, v .ordered, v .ends), (omega (arith, v .ends), (omega arith, tt)))))
+    (up-to (runNumbers run ++ (cellsOf run ∷ []))
+    (omega (arith, v .wide), (omega (arith, v .fits), (omega (arith, v .ordered, v .ends), (omega (arith, v .ends), (omega arith, tt))))))
 
 pub whole-long : {run : Run} {periods weights : List ℕ} → ValidInput run periods weights → length (entriesOf periods weights) ≤ 64
     → length (wholeReport run (entriesOf periods weights)) ≤ 920650
@@ -115,7 +109,7 @@ whole-long {run} {periods} {weights} a few =
     let s = sources-long run 1 es (a .few) (omega arith) (valid-entries ceiling 1 es (record { is = a .sound })) in
     let l = cells-long 0 m (omega (arith, a .few)) (map-within run es) in
     let n = above-few m in
-    let e = line-long endWord (above m ∷ []) (omega (arith, a .few), tt) in
+    let e = line-long endWord (above m ∷ []) (up-to (above m ∷ []) (omega (arith, a .few), tt)) in
     let whole = length-append (runReport run) (srcReport run 1 es ++ (mapReport 0 m ++ line endWord (above m ∷ []))) in
     let rest = length-append (srcReport run 1 es) (mapReport 0 m ++ line endWord (above m ∷ [])) in
     let last = length-append (mapReport 0 m) (line endWord (above m ∷ [])) in

@@ -18,7 +18,8 @@ use Rattle.scope.proofs.Judged.{Passes}
 use Rattle.scope.proofs.Limits.{passes-when, passes-first, passes-then, valid-run}
 use Rattle.sources.specs.Lists.{periodsOf, weightsOf}
 use Rattle.sources.proofs.Entries.{periods-length, weights-length}
-use Rattle.text.specs.Form.{line, Content, Spells}
+use Rattle.words.specs.Line.{line}
+use Rattle.text.specs.Form.{Content, Spells}
 use Rattle.text.specs.Promise.{saysText, replyTo, handed, textTests, TextPromise, sourcesOf}
 use Rattle.text.specs.declared.Input.{Input}
 use Rattle.text.specs.declared.Answer.the-variants.{Read, Refused}
@@ -75,7 +76,7 @@ module _ {text : List ℕ} {input : Input} (p : TextPromise text input) where
         let all : input .count - 0 ≡ input .count = omega arith in
         rw all
         (record {
-          valid = valid-run (passes-first (passes-first (passes-first t))) (omega (arith, spells .0 .runSmall .1 .0));
+          valid = valid-run (passes-first (passes-first (passes-first t))) (omega (arith, spells .0 .runSmall 1));
           few = ltb-false 65536 (cellsOf run) (passes-when (passes-then (passes-first t)));
           equal = length-take-le (input .count) (input .periods) periods-within ∙ sym (length-take-le (input .count) (input .weights) weights-within);
           sound = passes-then t .is;

@@ -11,7 +11,8 @@ use Rattle.scope.specs.Run.{ceiling, cellsOf}
 use Rattle.scope.specs.Hit.{hitsFrom}
 use Rattle.scope.specs.Reply.{Said, refused, answered}
 use Rattle.sources.specs.Entry.{Entry}
-use Rattle.text.specs.Form.{line, runWord, srcWord, runNumbers, Content}
+use Rattle.words.specs.Line.{line}
+use Rattle.text.specs.Form.{runWord, srcWord, runNumbers, Content}
 use Rattle.text.specs.Promise.{replyTo, handed}
 use Rattle.map.specs.Promise.{added}
 

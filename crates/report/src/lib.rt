@@ -11,7 +11,7 @@ ghost use mathlib.Core.List.{[], _∷_, _++_};
 ghost use lib.ListN.{length};
 ghost use Rattle.rooms.specs.Lists.{zeros};
 ghost use Rattle.rooms.specs.InnerRooms.{Written};
-ghost use Rattle.text.specs.Form.{line};
+ghost use Rattle.words.specs.Line.{line};
 ghost use Rattle.scope.specs.Run.{ValidRun, ValidSource, cellsOf};
 ghost use Rattle.scope.specs.Hit.{hitsFrom};
 ghost use Rattle.sources.specs.Entry.{entriesOf};
@@ -37,21 +37,6 @@ fn blank() -> [u8; ROOM]
     [0; ROOM]
 }
 
-// Writes a line, a word and its numbers, into the room at `at` and answers where it ends.
-fn write_line(room: &mut [u8], at: usize, word: &[u8], numbers: &[u64]) -> usize
-    requires { ⌜ at + length (line (now word) (now numbers)) ≤ length (now room) ⌝ }
-    ensures { λ r. ⌜ Written (now (room .entry)) at (line (now (word .entry)) (now (numbers .entry))) r (now (room .exit)) ⌝ }
-{
-    let mut next = rooms::write_bytes(room, at, word);
-    let mut k = 0;
-    while k < numbers.len() {
-        let start = rooms::write_bytes(room, next, b" ");
-        next = decimal::write_number(room, start, numbers[k]);
-        k += 1;
-    }
-    rooms::write_bytes(room, next, b"\n")
-}
-
 // Writes the line of a cell above 0; for a cell of 0 there is none.
 fn write_cell(room: &mut [u8], at: usize, cell: RunCell, value: u8) -> usize
     requires { ⌜ at + length (cellReport (cell .0) value) ≤ length (now room) ⌝ }
@@ -61,7 +46,7 @@ fn write_cell(room: &mut [u8], at: usize, cell: RunCell, value: u8) -> usize
         return at;
     }
     let numbers = [cell.0, rooms::wide(value)];
-    write_line(room, at, b"map", &numbers)
+    words::write_line(room, at, b"map", &numbers)
 }
 
 // Writes the lines of all cells above 0.
@@ -100,7 +85,7 @@ fn write_cells(room: &mut [u8], at: usize, map: &[u8]) -> usize
 {
     let next = write_map(room, at, map);
     let numbers = [count_above(map)];
-    write_line(room, next, b"end", &numbers)
+    words::write_line(room, next, b"end", &numbers)
 }
 
 // Cells for the longest run that a text may have, with nothing in them.
@@ -148,7 +133,7 @@ fn write_source(
         weight as u64,
         count_hits(run, source),
     ];
-    write_line(room, at, b"src", &numbers)
+    words::write_line(room, at, b"src", &numbers)
 }
 
 // Writes the lines of all sources.
@@ -186,7 +171,7 @@ fn write_run(room: &mut [u8], at: usize, run: Run) -> usize
         run.last as u64,
         scope::cells(run),
     ];
-    write_line(room, at, b"run", &numbers)
+    words::write_line(room, at, b"run", &numbers)
 }
 
 // Works the map of a run out in cleared cells, as many as the run has, and writes it.
@@ -244,7 +229,7 @@ fn report_refusal(number: u8) -> Output
 {
     let mut bytes = blank();
     let numbers = [rooms::wide(number)];
-    let length = write_line(&mut bytes, 0, b"refused", &numbers);
+    let length = words::write_line(&mut bytes, 0, b"refused", &numbers);
     Output { length, bytes }
 }
 

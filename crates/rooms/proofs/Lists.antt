@@ -73,6 +73,16 @@ padded-is size numbers = ap (λ rest. numbers ++ rest) (sym (drop-zeros (length 
 
 -- ---- no number above a limit
 
+-- the same, number by number
+abbrev pub Each : ℕ → List ℕ → Type 0
+Each most [] = Unit {0}
+Each most (n ∷ l) = (n ≤ most) × Each most l
+
+pub up-to : {most : ℕ} (l : List ℕ) → Each most l → UpTo most l
+up-to [] e k = omega arith
+up-to (n ∷ l) e zero = e .0
+up-to (n ∷ l) e (suc k) = up-to l (e .1) k
+
 pub up-to-none : (most : ℕ) → UpTo most []
 up-to-none most k = omega arith
 

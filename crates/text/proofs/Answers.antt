@@ -7,6 +7,10 @@ use mathlib.Core.Option.{some, none}
 use lib.ListN.{length, take, drop}
 use Rattle.rooms.specs.Lists.{zeros, padded}
 use Rattle.rooms.proofs.Lists.{length-zeros, padded-front, padded-is}
+use Rattle.words.specs.Inner.{Line, NoLine}
+use Rattle.words.specs.declared.Found.{Found}
+use Rattle.words.specs.declared.Found.the-variants.{Next, Refused}
+use Rattle.words.proofs.Lines.{line-split}
 use Rattle.scope.specs.declared.Run.{Run}
 use Rattle.scope.proofs.Judged.{Fails, Passes, refuse-reply, grant-reply, refuse-stored, grant-stored}
 use Rattle.sources.specs.Entry.{Entry, entriesOf}
@@ -14,12 +18,10 @@ use Rattle.sources.specs.Lists.{periodsOf, weightsOf}
 use Rattle.sources.proofs.Entries.{entries-of, periods-length, weights-length}
 use Rattle.text.specs.Form.{runWord, runNumbers, srcLines, textOf, Content, Spells}
 use Rattle.text.specs.Promise.{Reads, textTests, handed, refusal, TextPromise}
-use Rattle.text.specs.Inner.{NotOfForm, Line, NoLine, Lines, storedIn, LinesListed, NoLines, SourcesAt, LinesAt}
+use Rattle.text.specs.Inner.{NotOfForm, Lines, storedIn, LinesListed, NoLines, SourcesAt, LinesAt}
 use Rattle.text.specs.declared.Input.{Input}
 use Rattle.text.specs.declared.Answer.the-variants.{Read}
-use Rattle.text.specs.declared.Found.{Found}
-use Rattle.text.specs.declared.Found.the-variants.{Next, Refused}
-use Rattle.text.proofs.Lines.{line-split, line-run}
+use Rattle.text.proofs.Lines.{line-run}
 use Rattle.text.proofs.Listing.{stored-fits}
 
 -- ---- what a text says
@@ -36,18 +38,18 @@ module _ {text : List ℕ} {run : Run} {at : ℕ} (l : Line text 0 runWord (runN
   unfolding textOf
   no-sources n content s =
       n .none (content .entries)
-      (record { small = s .allSmall; is = line-split runWord (runNumbers run) (runNumbers (content .run)) (drop at text) (srcLines (content .entries)) (sym (l .stands .is) ∙ s .spelled) .1 })
+      (record { small = record { periods = s .periodsSmall; weights = s .weightsSmall }; is = line-split runWord (runNumbers run) (runNumbers (content .run)) (drop at text) (srcLines (content .entries)) (sym (l .stands .is) ∙ s .spelled) .1 })
 
   pub has-form : {entries : List Entry} → length text ≤ 4096 → Lines text at entries → Spells text (record { run = run; entries = entries })
   unfolding textOf
   has-form h m =
-      record { spelled = l .stands .is ∙ rw (m .is); runSmall = l .small; allSmall = m .small; short = h }
+      record { spelled = l .stands .is ∙ rw (m .is); runSmall = l .small; periodsSmall = m .small .periods; weightsSmall = m .small .weights; short = h }
 
 -- what reading the `src` lines answers, after a line with four numbers
 pub all-lines : {text numbers : List ℕ} {at : ℕ} → Line text 0 runWord numbers at → length numbers ≡ 4 → length text ≤ 4096
     → (periods weights periods′ weights′ : List ℕ) (count : ℕ) (found : Found) → SourcesAt text at periods weights periods′ weights′ count found → LinesAt text numbers periods weights periods′ weights′ count found
 all-lines l h short periods weights periods′ weights′ count (Next end) s = record { short = short; at = _; runs = l; lists = s }
-all-lines l h short periods weights periods′ weights′ count (Refused n) s = (s .0, no-sources (line-run l h refl) (s .1 .none))
+all-lines l h short periods weights periods′ weights′ count (Refused n) s = (s .0, no-sources (line-run l h refl) (s .1))
 
 -- ---- the reply that it makes
 

@@ -9,6 +9,8 @@ use mathlib.Core.Option.{Option, some, none}
 use lib.ListN.{length, getD, take}
 use Rattle.rooms.specs.Lists.{padded}
 use Rattle.rooms.proofs.Lists.{padded-front}
+use Rattle.words.specs.Line.{line}
+use Rattle.words.proofs.Lines.{line-split}
 use Rattle.scope.specs.declared.Run.{Run}
 use Rattle.scope.specs.Run.{ceiling}
 use Rattle.scope.specs.Refusal.{Complaint, Tests, _when_, _andThen_, ofSource, nothing, orElse, placed, complaint, number, windowTests, lineTests, runTests, periodTests, weightTests}
@@ -17,12 +19,11 @@ use Rattle.scope.proofs.Judged.{Passes, grant-reply, grant-stored}
 use Rattle.sources.specs.Entry.{Entry, entryTests, listTests}
 use Rattle.sources.specs.Lists.{periodsOf, weightsOf}
 use Rattle.sources.proofs.Entries.{entry, entries-of, periods-length, weights-length}
-use Rattle.text.specs.Form.{line, runWord, srcWord, runNumbers, srcNumbers, srcLines, textOf, Content, Spells}
+use Rattle.text.specs.Form.{runWord, srcWord, runNumbers, srcNumbers, srcLines, textOf, Content, Spells}
 use Rattle.text.specs.Promise.{Reads, textTests, replyTo, handed, saysText, TextPromise, sourcesOf}
 use Rattle.text.specs.declared.Answer.{Answer}
 use Rattle.text.specs.declared.Answer.the-variants.{Read, Refused}
 use Rattle.text.specs.declared.Input.{Input}
-use Rattle.text.proofs.Lines.{line-split}
 use Rattle.text.proofs.Says.{reads-exists}
 
 -- ---- the rendering is injective

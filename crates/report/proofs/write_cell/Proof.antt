@@ -3,7 +3,7 @@ use mathlib.Core.Path.{_≡_, sym, ap, _∙_, subst}
 use Prim.Native.Nat.{_+_, _≤_}
 use lib.ListN.{length}
 use mathlib.Core.List.{[], _∷_}
-use Rattle.text.specs.Form.{line}
+use Rattle.words.specs.Line.{line}
 use Rattle.rooms.proofs.Written.{written-none}
 use Rattle.report.specs.Report.{mapWord, cellReport}
 use Rattle.rooms.proofs.Writing.{written-same}

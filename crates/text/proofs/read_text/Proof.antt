@@ -17,7 +17,8 @@ use Rattle.sources.specs.Entry.{entriesOf, listTests}
 use Rattle.scope.proofs.Verdicts.{verdict-then}
 use Rattle.text.specs.Form.{runWord, runNumbers, Content, Spells}
 use Rattle.text.specs.Promise.{textTests}
-use Rattle.text.specs.Inner.{Line, AllLines, LinesAt}
+use Rattle.words.specs.Inner.{Line}
+use Rattle.text.specs.Inner.{AllLines, LinesAt}
 use Rattle.text.proofs.Lines.{line-run}
 use Rattle.text.proofs.Answers.{has-form, refuses-form, refuses, accepts, entries-stored}
 use Rattle.text.proofs.read_text.Statement.{statement}
@@ -141,7 +142,7 @@ enum-told-2 : tie.Need-enum-told-2
 enum-told-2 c = search needs
 
 cells-requires : tie.Need-cells-requires
-cells-requires c κs = valid-run (passes-first (few-passes c)) (omega (arith, run-read (c .before .before .before .before .before) .small .1 .0))
+cells-requires c κs = valid-run (passes-first (few-passes c)) (omega (arith, run-read (c .before .before .before .before .before) .small 1))
 
 refuse-requires-3 : tie.Need-refuse-requires-3
 refuse-requires-3 c κs = search needs
