@@ -1,9 +1,9 @@
 -- Where the points of a source lie among the cells of a run: the first hit from a cell on is the first on the rest of its
 -- line, or else on the first later line whose point is within the window. Assumes nothing.
 use Prim.Native.Nat.{ℕ, suc, _+_, _-_, _*_, _/_, _%_, _≤_, _<_}
-use native.Mathlib.Nat.{mod-lt, div-add-mod', mul-le-mul-right}
+use native.Mathlib.Nat.{mod-lt, add-mod, div-add-mod', mul-le-mul-right}
 use native.Mathlib.Omega.{arith}
-use mathlib.Core.Path.{_≡_, sym, subst, ap}
+use mathlib.Core.Path.{_≡_, sym, subst, ap, _∙_}
 use mathlib.Core.Logic.{_↔_, ⊎-elim}
 use mathlib.Core.Bool.{true, false}
 use Rattle.lattice.proofs.Congruence.{split, cong-iff-mod, cong-sym, cong-trans, cong-below}
@@ -22,7 +22,7 @@ use Rattle.vectors.proofs.Found.{first-two, start-left}
 use Rattle.vectors.proofs.Sequence.{size-of}
 use Rattle.search.specs.declared.Point.{Point}
 use Rattle.search.specs.declared.Found.the-variants.{Nothing}
-use Rattle.search.specs.InnerSearch.{Seeking, FirstFrom, Enters, Sought}
+use Rattle.search.specs.InnerSearch.{Seeking, PointOf, FirstFrom, Enters, Sought}
 
 -- ---- cells by lines and distances
 
@@ -118,29 +118,29 @@ module _ {run : Run} (v : ValidRun run) (source : Source) where
 
   -- ---- the first hit from a line on
 
-  -- the point at distance d on line j, d below the period, and where the search from it leads
-  module _ {d j : ℕ} (o : Points run source d j) (begun : run .first ≤ j) (low : d < source .period) where
-    -- a point on line j or later, as a way from this one
-    seen : (k e : ℕ) → e < run .window → (j - run .first) * run .window ≤ k * run .window + e → Points run source e (run .first + k) → (j ≤ run .first + k) × Go (source .period) (run .interval % source .period) d (run .first + k - j) e
+  -- a point at a distance below the period, and where the search from it leads
+  module _ {at : Point} (o : Points run source (at .distance) (at .line)) (begun : run .first ≤ at .line) (low : at .distance < source .period) where
+    -- a point on its line or later, as a way from this one
+    seen : (k e : ℕ) → e < run .window → (at .line - run .first) * run .window ≤ k * run .window + e → Points run source e (run .first + k) → (at .line ≤ run .first + k) × Go (source .period) (run .interval % source .period) (at .distance) (run .first + k - at .line) e
     seen k e h le o′ =
         let rows = rows-le {l = k} h le in
-        let l : j ≤ run .first + k = omega arith in
+        let l : at .line ≤ run .first + k = omega arith in
         (l, way run source l o o′)
 
-    pub line-none : (j - run .first) * run .window ≤ cellsOf run → Sought (source .period) (run .interval % source .period) (run .window) (run .last) (record { distance = d; line = j }) Nothing → FirstFrom run source ((j - run .first) * run .window) (cellsOf run)
-    line-none le s = first-none le (λ k e h le′ in′ o′. let w = seen k e h le′ o′ in omega (arith, w .0, s (run .first + k - j) e h (w .1)))
+    pub line-none : (at .line - run .first) * run .window ≤ cellsOf run → Sought (source .period) (run .interval % source .period) (run .window) (run .last) at Nothing → FirstFrom run source ((at .line - run .first) * run .window) (cellsOf run)
+    line-none le s = first-none le (λ k e h le′ in′ o′. let w = seen k e h le′ o′ in omega (arith, w .0, s (run .first + k - at .line) e h (w .1)))
 
-    pub line-found : {to : Point} → Enters (source .period) (run .interval % source .period) (run .window) (run .last) (record { distance = d; line = j }) to → FirstFrom run source ((j - run .first) * run .window) ((to .line - run .first) * run .window + to .distance)
+    pub line-found : {to : Point} → Enters (source .period) (run .interval % source .period) (run .window) (run .last) at to → FirstFrom run source ((at .line - run .first) * run .window) ((to .line - run .first) * run .window + to .distance)
     line-found {to} s =
         let n = s .nearer in
         let m = s .moves in
         let i = s .inside in
-        let same : run .first + (to .line - run .first) ≡ j + s .lines = omega arith in
+        let same : run .first + (to .line - run .first) ≡ at .line + s .lines = omega arith in
         let on : Points run source (to .distance) (run .first + (to .line - run .first)) = subst (λ x. Points run source (to .distance) x) (sym same) (arrive run source o (s .first .way)) in
-        let rise : j - run .first ≤ to .line - run .first = omega arith in
+        let rise : at .line - run .first ≤ to .line - run .first = omega arith in
         first-at (to .line - run .first) (s .first .inside) (omega (arith, mul-le-mul-right (run .window) rise)) (omega arith) on (λ l e h le lt o′.
         let w = seen l e h le o′ in
-        let past = s .first .least (run .first + l - j) e h (w .1) in
+        let past = s .first .least (run .first + l - at .line) e h (w .1) in
         let before = rows-le {k = l} {l = to .line - run .first} (s .first .inside) (omega arith) in
         let k : l ≡ to .line - run .first = omega (arith, w .0) in
         let e< : e < to .distance = omega (arith, ap (λ x. x * run .window) k) in
@@ -181,26 +181,34 @@ begin run source = firstTwo (source .period) (run .interval % source .period)
 pub begin-divides : (run : Run) {source : Source} → ValidSource source → Successive (source .period) (run .interval % source .period) (begin run source .before) (begin run source .last)
 begin-divides run s = first-two (mod-lt (run .interval) (s .ticks))
 
-pub begin-seeking : {run : Run} {source : Source} {d j : ℕ} → ValidRun run → ValidSource source → d < source .period → Seeking (begin run source .before) (begin run source .last) (record { distance = d; line = j }) (run .window) (run .last)
+pub begin-seeking : {run : Run} {source : Source} {at : Point} → ValidRun run → ValidSource source → at .distance < source .period → Seeking (begin run source .before) (begin run source .last) at (run .window) (run .last)
 begin-seeking {run} {source} v s low = record {
   division = record { p = _; r = _; is = begin-divides run s; fits = s .fits };
   below = rw (size-of (start-left (source .period))) (omega arith);
   short = v .ends;
 }
 
-module _ {run : Run} (v : ValidRun run) {source : Source} (s : ValidSource source) {line d : ℕ} (begun : run .first ≤ line) (is : d ≡ (run .interval * line + origin run source) % source .period) where
+module _ (run : Run) {source : Source} (s : ValidSource source) (line : ℕ) {d : ℕ} (is : d ≡ (run .interval * line + origin run source) % source .period) where
   pub distance-low : d < source .period
   distance-low = rw is (mod-lt (run .interval * line + origin run source) (s .ticks))
 
-  pub distance-point : Points run source d line
+  distance-point : Points run source d line
   distance-point = rw is (on-line (source .period) (run .interval) (origin run source) line)
 
-  -- what the search found
-  pub sought-cell : {to : Point} → Enters (source .period) (run .interval % source .period) (run .window) (run .last) (record { distance = d; line = line }) to → FirstFrom run source ((line - run .first) * run .window) ((to .line - run .first) * run .window + to .distance)
-  sought-cell h = line-found v source distance-point begun distance-low h
+  -- on the next line
+  pub distance-next : (d + run .interval % source .period) % source .period ≡ (run .interval * (line + 1) + origin run source) % source .period
+  distance-next = rw is (sym (add-mod (run .interval * line + origin run source) (run .interval) (source .period)) ∙ ap (λ n. n % source .period) (omega arith))
 
-  pub sought-none : line ≤ run .last + 1 → Sought (source .period) (run .interval % source .period) (run .window) (run .last) (record { distance = d; line = line }) Nothing → FirstFrom run source ((line - run .first) * run .window) (cellsOf run)
-  sought-none l h = line-none v source distance-point begun distance-low (lines-cells v l) h
+-- what the search from a point of the source found
+module _ {run : Run} (v : ValidRun run) {source : Source} (s : ValidSource source) {at : Point} (o : PointOf run source at) where
+  pub point-low : at .distance < source .period
+  point-low = distance-low run s (at .line) (o .is)
+
+  pub sought-cell : {to : Point} → Enters (source .period) (run .interval % source .period) (run .window) (run .last) at to → FirstFrom run source ((at .line - run .first) * run .window) ((to .line - run .first) * run .window + to .distance)
+  sought-cell h = line-found v source (distance-point run s (at .line) (o .is)) (o .begun) point-low h
+
+  pub sought-none : Sought (source .period) (run .interval % source .period) (run .window) (run .last) at Nothing → FirstFrom run source ((at .line - run .first) * run .window) (cellsOf run)
+  sought-none h = line-none v source (distance-point run s (at .line) (o .is)) (o .begun) point-low (lines-cells v (o .short)) h
 
 -- ---- the rest of a cell's line
 
@@ -214,7 +222,7 @@ module _ {run : Run} (v : ValidRun run) {x : ℕ} (inside : x < cellsOf run) whe
 
   module _ {source : Source} (s : ValidSource source) {d : ℕ} (is : d ≡ (run .interval * (run .first + x / run .window) + origin run source) % source .period) where
     row : Leftmost (source .period) (run .interval) (origin run source) (run .first + x / run .window) (x % run .window) (x % run .window + (d + (source .period - x % run .window % source .period)) % source .period)
-    row = leftmost (x % run .window) (s .ticks) (distance-point v s {d = d} (omega arith) is)
+    row = leftmost (x % run .window) (s .ticks) (distance-point run s (run .first + x / run .window) is)
 
     pub rest-found : x % run .window + (d + (source .period - x % run .window % source .period)) % source .period < run .window → FirstFrom run source x (x - x % run .window + (x % run .window + (d + (source .period - x % run .window % source .period)) % source .period))
     rest-found l = rw own-row (row-found v source x row inside l)

@@ -1,5 +1,5 @@
 -- What the inner steps of the search tell each other. A reader of the promises needs none of this.
-use Prim.Native.Nat.{ℕ, _+_, _≤_, _<_, max}
+use Prim.Native.Nat.{ℕ, _+_, _*_, _%_, _≤_, _<_, max}
 use mathlib.Core.Path.{_≡_}
 use mathlib.Core.Bool.{true, false}
 use lib.IntN.{natAbs}
@@ -9,6 +9,7 @@ use Rattle.scope.specs.declared.Run.{Run}
 use Rattle.scope.specs.declared.Source.{Source}
 use Rattle.scope.specs.Run.{cellsOf}
 use Rattle.scope.specs.Hit.{isHit}
+use Rattle.scope.proofs.Hits.{origin}
 use Rattle.vectors.specs.declared.Vector.{Vector}
 use Rattle.vectors.specs.InnerSequence.{Successive}
 use Rattle.search.specs.declared.Point.{Point}
@@ -59,6 +60,12 @@ pub record Enters (p r window last : ℕ) (at to : Point) : Type 0 where
 abbrev pub Sought : ℕ → ℕ → ℕ → ℕ → Point → Found → Type 0
 Sought p r window last at (At to) = Enters p r window last at to
 Sought p r window last at Nothing = (Z f : ℕ) → f < window → Go p r (at .distance) Z f → last < at .line + Z
+
+-- The point is the source's first right of the window's left edge, on a line of the run or on the one after it.
+pub record PointOf (run : Run) (source : Source) (at : Point) : Type 0 where
+  pub is : at .distance ≡ (run .interval * at .line + origin run source) % source .period
+  pub begun : run .first ≤ at .line
+  pub short : at .line ≤ run .last + 1
 
 -- The cell y is the first hit not below x, or the number of cells if there is none.
 pub record FirstFrom (run : Run) (source : Source) (x y : ℕ) : Type 0 where

@@ -13,7 +13,7 @@ ghost use Rattle.lattice.proofs.Multiples.{Above};
 ghost use Rattle.scope.specs.Run.{ValidRun, ValidSource, cellsOf};
 ghost use Rattle.scope.proofs.Hits.{origin};
 ghost use Rattle.vectors.specs.InnerSequence.{Successive};
-ghost use Rattle.search.specs.InnerSearch.{Approaching, Nearer, Seeking, Sought, FirstFrom};
+ghost use Rattle.search.specs.InnerSearch.{Approaching, Nearer, Seeking, Sought, PointOf, FirstFrom};
 
 // A point of a source: its distance from the window's left edge, to the right, and its line.
 pub struct Point {
@@ -104,19 +104,44 @@ pub fn distance(run: Run, source: Source, line: u64) -> u64
     (run.interval as u64 * line + run.window as u64 / 2) % source.period as u64
 }
 
-// The first hit on this line or a later one, or the number of cells if there is none.
-fn find_from_line(run: Run, source: Source, line: u64) -> RunCell
-    requires { ⌜ ValidRun run × ValidSource source × (run .first ≤ line) × (line ≤ run .last + 1) ⌝ }
-    ensures { λ r. ⌜ FirstFrom run source ((line - run .first) * run .window) (r .0) ⌝ }
+// Inner step. The first point within the window from a point of the source on, on a line up to the run's last: the search
+// down the division sequence of (-p, 0) and (r, 1).
+pub fn enter(run: Run, source: Source, at: Point) -> Found
+    requires { ⌜ ValidRun run × ValidSource source × (at .distance < source .period) ⌝ }
+    ensures { λ found. ⌜ Sought (source .period) (run .interval % source .period) (run .window) (run .last) at found ⌝ }
 {
-    let window = run.window as u64;
     let start = first_two(source.period, run.interval % source.period);
-    let at = Point {
-        distance: distance(run, source, line),
-        line,
-    };
-    match seek(start.before, start.last, at, window, run.last as u64) {
-        Found::At(to) => RunCell((to.line - run.first as u64) * window + to.distance),
+    seek(
+        start.before,
+        start.last,
+        at,
+        run.window as u64,
+        run.last as u64,
+    )
+}
+
+// The distance on the next line, of a source that is at this distance: the interval's remainder more, or a period less than
+// that where it comes to a period.
+fn distance_after(run: Run, source: Source, distance: u64) -> u64
+    requires { ⌜ ValidSource source × (distance < source .period) ⌝ }
+    ensures { λ r. ⌜ r ≡ (distance + run .interval % source .period) % source .period ⌝ }
+{
+    let period = source.period as u64;
+    let moved = distance + run.interval as u64 % period;
+    if moved < period {
+        moved
+    } else {
+        moved - period
+    }
+}
+
+// The first hit from a point of the source on, on its line or a later one, or the number of cells if there is none.
+fn find_from(run: Run, source: Source, at: Point) -> RunCell
+    requires { ⌜ ValidRun run × ValidSource source × PointOf run source at ⌝ }
+    ensures { λ r. ⌜ FirstFrom run source ((at .line - run .first) * run .window) (r .0) ⌝ }
+{
+    match enter(run, source, at) {
+        Found::At(to) => RunCell((to.line - run.first as u64) * run.window as u64 + to.distance),
         Found::Nothing => RunCell(scope::cells(run)),
     }
 }
@@ -132,9 +157,14 @@ pub fn find_hit(run: Run, source: Source, start: RunCell) -> RunCell
     let passed = start.0 / window;
     let line = run.first as u64 + passed;
     let from = start.0 % window;
-    let to = from + (distance(run, source, line) + (period - from % period)) % period;
+    let here = distance(run, source, line);
+    let to = from + (here + (period - from % period)) % period;
     if to < window {
         return RunCell(start.0 - from + to);
     }
-    find_from_line(run, source, line + 1)
+    let after = Point {
+        distance: distance_after(run, source, here),
+        line: line + 1,
+    };
+    find_from(run, source, after)
 }

@@ -1,7 +1,7 @@
 -- What a walk goes by: the pair, or the single vector, of a window as wide as the run's or as the period, whichever is less.
 -- By proposition 2 it leads from the first hit of each line to the first hit of the next line that has one. Assumes nothing.
 use Prim.Native.Nat.{ℕ, _+_, _-_, _*_, _/_, _%_, _≤_, _<_}
-use native.Mathlib.Nat.{mod-lt, mod-le, div-add-mod', div-le-self, mul-div-cancel', mul-le-mul-right}
+use native.Mathlib.Nat.{mod-lt, mod-le, div-add-mod', div-le-self, mul-div-cancel', mul-le-mul-right, zero-mul}
 use native.Mathlib.Omega.{arith}
 use mathlib.Core.Path.{_≡_, refl, ap, ap₂, _∙_, subst}
 use mathlib.Core.Bool.{true}
@@ -16,12 +16,15 @@ use Rattle.vectors.specs.InnerBasis.{Askable}
 use Rattle.vectors.proofs.Bridge.{magnitudes}
 use Rattle.scope.specs.declared.Run.{Run}
 use Rattle.scope.specs.declared.Source.{Source}
-use Rattle.scope.specs.Run.{ValidRun, ValidSource, lineOf, offsetOf}
+use Rattle.scope.specs.Run.{ValidRun, ValidSource, cellsOf, lineOf, offsetOf}
 use Rattle.scope.specs.Hit.{isHit}
 use Rattle.scope.proofs.Numbering.{line-at, distance-at}
 use Rattle.walk.specs.declared.Walk.{Walk}
-use Rattle.walk.specs.InnerWalk.{Short, GoesBy, Leads, Stands, Begins, width}
-use Rattle.search.proofs.Cells.{hit-point, point-hit}
+use Rattle.walk.specs.InnerWalk.{Short, GoesBy, Leads, Stands, Begun, Begins, width}
+use Rattle.search.specs.declared.Point.{Point}
+use Rattle.search.specs.declared.Found.the-variants.{Nothing}
+use Rattle.search.specs.InnerSearch.{PointOf, Enters, Sought}
+use Rattle.search.proofs.Cells.{hit-point, point-hit, point-low, sought-cell, sought-none}
 use Rattle.walk.proofs.Walks.{first-point}
 
 -- ---- the place of the first hit of a line
@@ -55,6 +58,28 @@ module _ {run : Run} (v : ValidRun run) {source : Source} (s : ValidSource sourc
         leftmost = rw place (mod-lt (cell % run .window) (s .ticks));
         offset = rw place o;
       }
+
+-- ---- the first hit of the run
+
+-- the search from a point on the run's first line
+module _ {run : Run} (v : ValidRun run) {source : Source} (s : ValidSource source) {from : Point} (o : PointOf run source from) (line : from .line ≡ run .first) where
+  -- no cell lies before that line
+  none-before : (from .line - run .first) * run .window ≡ 0
+  none-before = let no : from .line - run .first ≡ 0 = omega arith in rw no (zero-mul (run .window))
+
+  pub begun-at : {to : Point} {offset : ℤ} → Enters (source .period) (run .interval % source .period) (run .window) (run .last) from to → offset ≡ pos (to .distance) -ℤ pos (run .window / 2) → Begun run source (record { offset = offset; cell = record { 0 = (to .line - run .first) * run .window + to .distance } })
+  unfolding offsetOf
+  begun-at {to} {offset} h is =
+      let first = rw none-before at (sought-cell v s o h) in
+      let place : ((to .line - run .first) * run .window + to .distance) % run .window ≡ to .distance = distance-at run (to .line - run .first) (h .first .inside) in
+      let low = point-low v s o in
+      record {
+        first = first;
+        stands = λ l. record { hit = first .hit l; leftmost = omega (arith, h .nearer); offset = rw place is };
+      }
+
+  pub begun-none : {offset : ℤ} → Sought (source .period) (run .interval % source .period) (run .window) (run .last) from Nothing → Begun run source (record { offset = offset; cell = record { 0 = cellsOf run } })
+  begun-none h = record { first = rw none-before at (sought-none v s o h); stands = λ l. absurd (omega arith) }
 
 -- ---- the vectors
 

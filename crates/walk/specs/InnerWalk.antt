@@ -10,6 +10,7 @@ use Rattle.scope.specs.declared.Source.{Source}
 use Rattle.scope.specs.Run.{ValidRun, ValidSource, cellsOf, lineOf, offsetOf}
 use Rattle.scope.specs.Hit.{isHit}
 use Rattle.vectors.specs.declared.Vector.{Vector}
+use Rattle.search.specs.InnerSearch.{FirstFrom}
 use Rattle.walk.specs.declared.Step.{Step}
 use Rattle.walk.specs.declared.LineHit.{LineHit}
 use Rattle.walk.specs.declared.Walk.{Walk}
@@ -113,6 +114,11 @@ pub record NextLine (run : Run) (source : Source) (at to : LineHit) : Type 0 whe
 -- The same, for every run and source that the walk is for.
 abbrev pub Walks : Walk → LineHit → LineHit → Type 0
 Walks walk at to = (run : Run) (source : Source) → ValidRun run → ValidSource source → Leads run source walk → Stands run source at → NextLine run source at to
+
+-- The place is that of the run's first hit, or its cell is the number of cells if there is none.
+pub record Begun (run : Run) (source : Source) (at : LineHit) : Type 0 where
+  pub first : FirstFrom run source 0 (at .cell .0)
+  pub stands : at .cell .0 < cellsOf run → Stands run source at
 
 -- The place is on the cell's line, and where the cell is hit it is that of the first hit there.
 pub record Begins (run : Run) (source : Source) (cell : ℕ) (at : LineHit) : Type 0 where

@@ -3,13 +3,15 @@
 use scope::Run;
 use scope::RunCell;
 use scope::Source;
+use search::Found;
+use search::Point;
 use vectors::Basis;
 use vectors::Vector;
 ghost use mathlib.Core.Path.{_≡_};
 ghost use Prim.Native.Nat.{_+_, _*_, _/_, _≤_, _<_, _^_, min};
 ghost use lib.IntN.{pos, _+ℤ_, _-ℤ_};
 ghost use Rattle.scope.specs.Run.{ValidRun, ValidSource, cellsOf};
-ghost use Rattle.walk.specs.InnerWalk.{Short, Joinable, GoesBy, Begins, Leads, Movable, Moved, Walking, Walks};
+ghost use Rattle.walk.specs.InnerWalk.{Short, Joinable, GoesBy, Begun, Begins, Leads, Movable, Moved, Walking, Walks};
 
 // A step of the walk: so many ticks of offset, so many cells on.
 pub struct Step {
@@ -104,6 +106,28 @@ pub fn plan(run: Run, source: Source) -> Walk
     match vectors::find_basis(period, run.interval % period, width) {
         Basis::Two(left, right) => walk_by(left, right, window, width),
         Basis::One(only) => walk_by(only, only, window, width),
+    }
+}
+
+// Inner step. The run's first hit, sought from its first line on; its cell is the number of cells if there is none.
+pub fn begin(run: Run, source: Source) -> LineHit
+    requires { ⌜ ValidRun run × ValidSource source ⌝ }
+    ensures { λ at. ⌜ Begun run source at ⌝ }
+{
+    let line = run.first as u64;
+    let from = Point {
+        distance: search::distance(run, source, line),
+        line,
+    };
+    match search::enter(run, source, from) {
+        Found::At(to) => LineHit {
+            offset: offset_at(to.distance, run.window),
+            cell: RunCell((to.line - line) * run.window as u64 + to.distance),
+        },
+        Found::Nothing => LineHit {
+            offset: 0,
+            cell: RunCell(scope::cells(run)),
+        },
     }
 }
 

@@ -2,15 +2,19 @@
 use borrow.Author.Needs.{needs}
 use native.Mathlib.Omega.{arith}
 use native.Mathlib.Nat.{mod-lt, mod-le}
-use Prim.Native.Nat.{_+_, _-_, _/_, _%_, _≤_}
+use Prim.Native.Nat.{ℕ, _+_, _-_, _/_, _%_, _≤_}
+use mathlib.Core.Path.{_∙_}
 use Rattle.scope.proofs.Limits.{cells-few}
-use Rattle.search.proofs.Cells.{distance-low, own-line, rest-found, rest-none}
+use Rattle.search.proofs.Cells.{distance-low, distance-next, own-line, rest-found, rest-none}
 use Rattle.search.proofs.find_hit.Statement.{statement}
 use Rattle.search.proofs.find_hit.Tie as tie
 
 -- the start's own line
 line-in : (s : tie.Start) → let a = s .args in a .run .first + a .start .0 / a .run .window ≤ a .run .last
 line-in s = own-line (s .pre .0) (s .pre .2)
+
+abbrev own : tie.Start → ℕ
+own s = let a = s .args in a .run .first + a .start .0 / a .run .window
 
 cast-window : tie.Need-cast-window
 cast-window c = search needs
@@ -42,7 +46,7 @@ sub-to c = let s = c .before .before .before .before .before .before in omega (a
 add-to : tie.Need-add-to
 add-to c =
     let s = c .before .before .before .before .before .before in
-    let low = distance-low (s .pre .0) (s .pre .1) (omega arith) (c .distance .ensures) in
+    let low = distance-low (s .args .run) (s .pre .1) (own s) (c .distance .ensures) in
     record { fits = omega (arith, s .pre .1 .fits) }
 
 rem-to-2 : tie.Need-rem-to-2
@@ -56,11 +60,11 @@ add-to-2 c =
     let from = mod-lt (s .args .start .0) {m = s .args .run .window} (omega arith) in
     record { fits = omega (arith, s .pre .1 .fits, s .pre .0 .wide) }
 
-sub-t16 : tie.Need-sub-t16
-sub-t16 c = let s = c .before .before .before .before .before .before .before .before in omega (arith, mod-le (s .args .start .0) (s .args .run .window))
+sub-t17 : tie.Need-sub-t17
+sub-t17 c = let s = c .before .before .before .before .before .before .before .before in omega (arith, mod-le (s .args .start .0) (s .args .run .window))
 
-add-t17 : tie.Need-add-t17
-add-t17 c =
+add-t18 : tie.Need-add-t18
+add-t18 c =
     let d = c .before .before in
     let s = d .before .before .before .before .before .before in
     let f = rest-found (s .pre .0) (s .pre .2) (s .pre .1) (d .distance .ensures) (c .before .if1 .taken) in
@@ -72,18 +76,28 @@ returns c =
     let s = d .before .before .before .before .before .before in
     rest-found (s .pre .0) (s .pre .2) (s .pre .1) (d .distance .ensures) (c .before .if1 .taken)
 
-add-find-from-line : tie.Need-add-find-from-line
-add-find-from-line c = let l = line-in (c .before .before .before .before .before .before .before) in record { fits = omega arith }
+distance-after-requires : tie.Need-distance-after-requires
+distance-after-requires c κs =
+    let d = c .before in
+    let s = d .before .before .before .before .before .before in
+    (s .pre .1, distance-low (s .args .run) (s .pre .1) (own s) (d .distance .ensures))
 
-find-from-line-requires : tie.Need-find-from-line-requires
-find-from-line-requires c κs = let s = c .before .before .before .before .before .before .before in let l = line-in s in (s .pre .0, s .pre .1, omega arith, omega arith)
+add-t13 : tie.Need-add-t13
+add-t13 c = let l = line-in (c .before .before .before .before .before .before .before .before) in record { fits = omega arith }
+
+find-from-requires : tie.Need-find-from-requires
+find-from-requires c κs =
+    let d = c .before .before in
+    let s = d .before .before .before .before .before .before in
+    let l = line-in s in
+    (s .pre .0, s .pre .1, record { is = c .distance-after .ensures ∙ distance-next (s .args .run) (s .pre .1) (own s) (d .distance .ensures); begun = omega arith; short = omega arith })
 
 returns-2 : tie.Need-returns-2
 returns-2 c =
-    let i = c .before in
+    let i = c .before .before in
     let d = i .before in
     let s = d .before .before .before .before .before .before in
-    rest-none (s .pre .0) (s .pre .2) (s .pre .1) (d .distance .ensures) (i .if1 .left) (c .find-from-line .ensures)
+    rest-none (s .pre .0) (s .pre .2) (s .pre .1) (d .distance .ensures) (i .if1 .left) (c .find-from .ensures)
 
 pub find-hit-spec : {M : Type 1} → statement M
 find-hit-spec =
@@ -101,9 +115,10 @@ find-hit-spec =
     add-to
     rem-to-2
     add-to-2
-    sub-t16
-    add-t17
+    sub-t17
+    add-t18
     returns
-    add-find-from-line
-    find-from-line-requires
+    distance-after-requires
+    add-t13
+    find-from-requires
     returns-2)
