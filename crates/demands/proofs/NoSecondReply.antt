@@ -21,7 +21,7 @@ use Rattle.map.proofs.Unique as Map
 use Rattle.saved.specs.declared.Saved.{Saved}
 use Rattle.saved.specs.declared.Loaded.{Loaded}
 use Rattle.saved.specs.Promise.{SavingPromise, ReadingPromise}
-use Rattle.saved.proofs.RoundTrips as Saved
+use Rattle.saved.proofs.Unique as Saved
 use Rattle.text.specs.declared.Input.{Input}
 use Rattle.text.specs.Promise.{TextPromise}
 use Rattle.text.proofs.Unique as Text

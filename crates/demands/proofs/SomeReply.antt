@@ -26,19 +26,16 @@ use Rattle.map.specs.declared.Added.the-variants.{Done as Done·map, Refused as
 use Rattle.map.specs.Promise.{mapTests, MapPromise}
 use Rattle.map.proofs.Unique.{refused-call, granted-call}
 use Rattle.saved.specs.declared.Saved.{Saved}
-use Rattle.saved.specs.declared.Saved.the-variants.{Done as Done·saved, Refused as Refused·saved}
 use Rattle.saved.specs.declared.Loaded.{Loaded}
-use Rattle.saved.specs.declared.Loaded.the-variants.{Of, Refused as Refused·loaded}
-use Rattle.saved.specs.File.{savingTests, readingTests}
 use Rattle.saved.specs.Promise.{SavingPromise, ReadingPromise}
-use Rattle.saved.proofs.Promises.{refuse-saving, grant-saving, refuse-reading, grant-reading}
+use Rattle.saved.proofs.Unique as Saved
 use Rattle.text.specs.declared.Input.{Input}
 use Rattle.text.specs.Promise.{TextPromise}
 use Rattle.text.proofs.Unique as Text
 use Rattle.report.specs.declared.Output.{Output}
 use Rattle.report.specs.Promise.{ReportPromise}
 use Rattle.report.proofs.Unique as Report
-use Rattle.demands.proofs.Rendered.{judged}
+use Rattle.scope.proofs.Rendered.{judged}
 
 -- Some reply fits the vectors call.
 pub vectors-exists : (p r I : ℕ) → (steps : Steps) × VectorsPromise p r I steps
@@ -99,19 +96,11 @@ map-exists run periods weights map = go (judged (mapTests ceiling run periods we
 
 -- Some reply and some file after it fit saving.
 pub saving-exists : (run : Run) (map room : List ℕ) → (answer : Saved) × (after : List ℕ) × SavingPromise run map room answer after
-saving-exists run map room = go (judged (savingTests run map room))
-  where
-    go : Passes (savingTests run map room) ⊎ ((n : ℕ) × Fails (savingTests run map room) n) → (answer : Saved) × (after : List ℕ) × SavingPromise run map room answer after
-    go (inl p) = (Done·saved, _, grant-saving p refl)
-    go (inr f) = (Refused·saved (f .0), room, refuse-saving (f .1))
+saving-exists = Saved.saving-exists
 
 -- Some reply and some map after it fit reading.
 pub reading-exists : (file map : List ℕ) → (answer : Loaded) × (after : List ℕ) × ReadingPromise file map answer after
-reading-exists file map = go (judged (readingTests file map))
-  where
-    go : Passes (readingTests file map) ⊎ ((n : ℕ) × Fails (readingTests file map) n) → (answer : Loaded) × (after : List ℕ) × ReadingPromise file map answer after
-    go (inl p) = (Of _, _, grant-reading p refl refl)
-    go (inr f) = (Refused·loaded (f .0), map, refuse-reading (f .1))
+reading-exists = Saved.reading-exists
 
 -- ---- text and report
 

@@ -2,4 +2,4 @@ pub mod Writing
 pub mod Number
 pub mod Filling
 pub mod FileBlock
-pub mod Differs
+pub mod Table

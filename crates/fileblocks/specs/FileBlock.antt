@@ -1,10 +1,31 @@
--- Document 01, "Saved map: blocks of 512 bytes, little-endian": one block.
+-- Document 01, "Saved map: blocks of 512 bytes, little-endian": one block of the file.
 use Prim.Native.Nat.{ℕ, zero, suc, _+_, _-_, _*_, _/_, _%_}
 use mathlib.Core.Bool.{Bool, true, false, not, cond}
 use mathlib.Core.List.{List, [], _∷_, _++_}
 use lib.Dec.{eqb}
 use lib.ListN.{length, getD, take, drop, replicate}
+use Rattle.scope.specs.Run.{UpTo}
 use Rattle.scope.specs.Refusal.{Tests, _when_, _andThen_, Check, Layout}
+
+-- "blocks of 512 bytes".
+abbrev pub fileBlockBytes : ℕ
+fileBlockBytes = 512
+
+-- "in bytes 4-507": where the contents begin.
+abbrev pub contentAt : ℕ
+contentAt = 4
+
+-- And how many bytes they have.
+abbrev pub contentBytes : ℕ
+contentBytes = 504
+
+-- "Bytes 508-511: check": where the check begins.
+abbrev pub checkAt : ℕ
+checkAt = 508
+
+-- "one byte": every number of the list is one.
+abbrev pub Bytes : List ℕ → Type 0
+Bytes numbers = UpTo 255 numbers
 
 -- "little-endian": a 32-bit number as four bytes, the lowest first.
 unfoldable pub four : ℕ → List ℕ
@@ -21,11 +42,11 @@ weighted bytes (suc k) = weighted bytes k + suc k * getD bytes k 0
 
 -- "check = 1 + sum of (k+1)·byte k for k = 0..507".
 unfoldable pub checkOf : List ℕ → ℕ
-checkOf bytes = 1 + weighted bytes 508
+checkOf bytes = 1 + weighted bytes checkAt
 
 -- "in bytes 4-507 .. filled up with zeros": the first 504 of some bytes, or all of them and zeros.
 unfoldable pub filled : List ℕ → List ℕ
-filled bytes = take 504 bytes ++ replicate (504 - length bytes) 0
+filled bytes = take contentBytes bytes ++ replicate (contentBytes - length bytes) 0
 
 -- "Bytes 508-511: check": bytes 0-507 with their check behind them.
 unfoldable pub sealed : List ℕ → List ℕ
@@ -37,7 +58,7 @@ fileBlockOf k bytes = sealed (four k ++ filled bytes)
 
 -- "Bytes 4-507" of a block.
 unfoldable pub contents : List ℕ → List ℕ
-contents block = take 504 (drop 4 block)
+contents block = take contentBytes (drop contentAt block)
 
 -- Every one of some bytes is zero.
 unfoldable pub allZero : List ℕ → Bool
@@ -46,7 +67,7 @@ allZero (byte ∷ bytes) = cond (eqb byte 0) (allZero bytes) false
 
 -- "Bytes 0-3: block number", "Bytes 508-511: check": both are right, of block k.
 unfoldable pub sealedWith : ℕ → List ℕ → Bool
-sealedWith k block = cond (eqb (fourAt block 0) k) (eqb (fourAt block 508) (checkOf block)) false
+sealedWith k block = cond (eqb (fourAt block 0) k) (eqb (fourAt block checkAt) (checkOf block)) false
 
 -- "14: wrong block number or check", "15: .. filling not as laid down", of block k if it is to hold so many bytes before the filling.
 unfoldable pub fileBlockTests : ℕ → ℕ → List ℕ → Tests

@@ -1,4 +1,4 @@
-// One block of a saved map: 512 bytes, its number before its contents and its check behind; written, and judged.
+// One block of a saved map, a file block: 512 bytes, its number before its contents and its check behind; written, and judged.
 // Every function is proved. No function here is a public operation: each is an inner step of the crates above.
 use scope::Verdict;
 ghost use mathlib.Core.Path.{_≡_};
@@ -6,12 +6,16 @@ ghost use Prim.Native.Nat.{_+_, _*_, _≤_, _<_};
 ghost use lib.ListN.{length, drop, replicate};
 ghost use Rattle.scope.specs.Refusal.{complaint};
 ghost use Rattle.scope.specs.InnerVerdict.{verdict};
-ghost use Rattle.fileblocks.specs.FileBlock.{four, fourAt, checkOf, fileBlockOf, allZero, sealedWith, fileBlockTests};
+ghost use Rattle.fileblocks.specs.FileBlock.{fileBlockBytes, contentBytes, checkAt, four, fourAt, checkOf, fileBlockOf, allZero, sealedWith, fileBlockTests};
 
-// A block has so many bytes: its number, its contents, its check.
-pub const FILE_BLOCK: usize = 512;
+// A file block has so many bytes: its number, its contents, its check.
+pub const FILE_BLOCK_BYTES: usize = 512;
+// Its contents stand from this byte on.
+pub const CONTENT_AT: usize = 4;
+// They are so many bytes.
+pub const CONTENT_BYTES: usize = 504;
 // Its check stands from this byte on.
-const CHECK: usize = 508;
+const CHECK_AT: usize = 508;
 
 // A byte as a wider number: the same, and below 256.
 fn wide(byte: u8) -> u32
@@ -22,12 +26,12 @@ fn wide(byte: u8) -> u32
 
 // Inner step. The check of a block: 1 and the sum of (k+1)·byte k for k = 0..507. Each term is at most 508·255, so that 32 bits hold the sum.
 pub fn check(block: &[u8]) -> u32
-    requires { ⌜ 508 ≤ length (now block) ⌝ }
+    requires { ⌜ checkAt ≤ length (now block) ⌝ }
     ensures { λ r. ⌜ r ≡ checkOf (now (block .entry)) ⌝ }
 {
     let mut sum: u32 = 1;
     let mut k: usize = 0;
-    while k < CHECK {
+    while k < CHECK_AT {
         sum += (k as u32 + 1) * wide(block[k]);
         k += 1;
     }
@@ -97,36 +101,36 @@ pub fn zeros_from(bytes: &[u8], from: usize) -> bool
 // Inner step. Writes the block with this number that holds these bytes, filled up with zeros. The parts follow each other from the front;
 // the check comes last, over what then stands there, so that nothing the room held before counts.
 pub fn write_file_block(number: u32, bytes: &[u8], block: &mut [u8])
-    requires { ⌜ (length (now bytes) ≤ 504) × (length (now block) ≡ 512) ⌝ }
+    requires { ⌜ (length (now bytes) ≤ contentBytes) × (length (now block) ≡ fileBlockBytes) ⌝ }
     ensures { λ _. ⌜ now (block .exit) ≡ fileBlockOf number (now (bytes .entry)) ⌝ }
 {
-    let end = 4 + bytes.len();
-    put_four(&mut block[0..4], number);
-    copy(bytes, &mut block[4..end]);
-    clear(&mut block[end..CHECK]);
+    let end = CONTENT_AT + bytes.len();
+    put_four(&mut block[0..CONTENT_AT], number);
+    copy(bytes, &mut block[CONTENT_AT..end]);
+    clear(&mut block[end..CHECK_AT]);
     let sum = check(block);
-    put_four(&mut block[CHECK..FILE_BLOCK], sum);
+    put_four(&mut block[CHECK_AT..FILE_BLOCK_BYTES], sum);
 }
 
 // Whether a block has this number and the check of its bytes.
 fn is_sealed(number: u32, block: &[u8]) -> bool
-    requires { ⌜ length (now block) ≡ 512 ⌝ }
+    requires { ⌜ length (now block) ≡ fileBlockBytes ⌝ }
     ensures { λ r. ⌜ r ≡ sealedWith number (now (block .entry)) ⌝ }
 {
     if four_at(block, 0) != number {
         return false;
     }
-    four_at(block, CHECK) == check(block)
+    four_at(block, CHECK_AT) == check(block)
 }
 
 // Inner step. What 01's table says of a block that is to have this number and to hold `size` bytes: 14 for the number or the check,
 // then 15 for the filling behind those bytes. A full block has none.
 pub fn judge_file_block(number: u32, size: usize, block: &[u8]) -> Verdict
-    requires { ⌜ length (now block) ≡ 512 ⌝ }
+    requires { ⌜ length (now block) ≡ fileBlockBytes ⌝ }
     ensures { λ r. ⌜ r ≡ verdict (complaint (fileBlockTests number size (now (block .entry)))) ⌝ }
 {
     let sealed = is_sealed(number, block);
-    let filled = zeros_from(&block[4..CHECK], size);
+    let filled = zeros_from(&block[CONTENT_AT..CHECK_AT], size);
     if !sealed {
         return Verdict::Refused(14);
     }

@@ -4,3 +4,4 @@ pub mod Kept
 pub mod Lines
 pub mod Unique
 pub mod Proposition
+pub mod Table

@@ -1,3 +1,4 @@
 pub mod Promise
 pub mod Proposition
 pub mod InnerList
+pub mod Table

@@ -68,17 +68,21 @@ pub fn first_hit(run: Run, source: Source, start: RunCell) -> FirstHit
 
 // The hits from `start` on, written until there are no more or the room is full: line by line, and on a line at offsets that
 // lie a period apart. `at` is the first hit of the line and `to` that of the next line that has one, worked out before the
-// line is written, so that the processor has it by then; `cell` and `offset` are those of the hit that is next.
+// line is written, so that the processor has it by then. `cell` and `offset` are those of the hit that is next; within the
+// line its offset is counted from the window's right edge, `past`, so that the test is one of the sign.
 fn write_hits(run: Run, source: Source, start: RunCell, room: &mut [u64]) -> Listing
     requires { ⌜ ValidRun run × ValidSource source × start .0 < cellsOf run ⌝ }
     ensures { λ r. ⌜ ListsFrom run source (start .0) (now (room .entry)) r (now (room .exit)) ⌝ }
 {
     let all = scope::cells(run);
+    let first = search::find_hit(run, source, start);
+    if all <= first.0 {
+        return Listing::Done(0);
+    }
     let window = run.window;
     let period = source.period;
     let end = walk::offset_at(window as u64, window);
     let walk = walk::plan(run, source);
-    let first = search::find_hit(run, source, start);
     let mut cell = first.0;
     let mut offset = walk::offset_at(cell % window as u64, window);
     let mut at = walk::line_hit_of(run, source, first);
@@ -86,14 +90,15 @@ fn write_hits(run: Run, source: Source, start: RunCell, room: &mut [u64]) -> Lis
     let mut n: usize = 0;
     'lines: while cell < all {
         let to = walk.next(at);
-        while offset < end {
+        let mut past = offset - end;
+        while past < 0 {
             if n == room.len() {
                 next = cell;
                 break 'lines;
             }
             room[n] = cell;
             n += 1;
-            offset += period as i64;
+            past += period as i64;
             cell += period as u64;
         }
         at = to;

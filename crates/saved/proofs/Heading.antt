@@ -9,10 +9,10 @@ use borrow.Author.Tests.{not-false}
 use lib.ListN.{length, getD, take, drop, replicate, length-append, length-take, length-drop}
 use lib.Seq.{getD-take, drop-cons, take-add, take-take, drop-drop}
 use Rattle.scope.specs.declared.Run.{Run}
-use Rattle.scope.specs.Run.{ValidRun, UpTo}
+use Rattle.scope.specs.Run.{ValidRun}
 use Rattle.scope.proofs.Judged.{Passes, sound, both}
 use Rattle.scope.proofs.Limits.{passes-first, passes-then, passes-when}
-use Rattle.fileblocks.specs.FileBlock.{four, fourAt, filled, sealed, fileBlockOf, allZero}
+use Rattle.fileblocks.specs.FileBlock.{fileBlockBytes, contentBytes, Bytes, four, fourAt, filled, sealed, fileBlockOf, allZero}
 use Rattle.saved.specs.File.{heading, fileBlockAt, runOf, headingTests}
 use Rattle.saved.proofs.Lists.{take-drop-take}
 use Rattle.fileblocks.proofs.Filling.{all-zero-replicate}
@@ -20,13 +20,13 @@ use Rattle.saved.proofs.Bytes.{bytes-append, bytes-four, bytes-fileBloc
 use Rattle.fileblocks.proofs.FileBlock.{length-four}
 use Rattle.saved.proofs.Cells.{contents-at, length-fileBlockAt}
 use Rattle.saved.proofs.Sealing.{file-block-passes, file-block-is, four-back}
-use Rattle.fileblocks.proofs.Differs.{agrees, same}
+use Rattle.scope.proofs.Differs.{agrees, same}
 
 pub length-heading : (run : Run) → length (heading run) ≡ 20
 unfolding heading
 length-heading run = simp (length-append, length-four)
 
-bytes-heading : (run : Run) → UpTo 255 (heading run)
+bytes-heading : (run : Run) → Bytes (heading run)
 unfolding heading four
 bytes-heading run =
     bytes-append (four 1) (four (run .window) ++ four (run .interval) ++ four (run .first) ++ four (run .last)) (bytes-four 1)
@@ -61,14 +61,14 @@ heading-passes run =
     (sound (ap not (spare-there run)))
 
 -- the version and the spare bytes of a block that passes, and the numbers behind them
-module _ (file : List ℕ) (l : 512 ≤ length file) (b : UpTo 255 file) (p : Passes (headingTests (fileBlockAt file 0))) where
+module _ (file : List ℕ) (l : fileBlockBytes ≤ length file) (b : Bytes file) (p : Passes (headingTests (fileBlockAt file 0))) where
   spare-told : take 4 (drop 4 file) ≡ 1 ∷ 0 ∷ 0 ∷ 0 ∷ []
   unfolding headingTests fileBlockAt
   spare-told =
-      let version : getD file 4 0 ≡ 1 = sym (getD-take 512 file 4 0 (omega arith)) ∙ same _ _ (passes-then (passes-first p)) in
-      let three : length (take 3 (drop 5 (take 512 file))) ≡ 3 = simp (length-take, length-drop) (omega arith) in
+      let version : getD file 4 0 ≡ 1 = sym (getD-take fileBlockBytes file 4 0 (omega arith)) ∙ same _ _ (passes-then (passes-first p)) in
+      let three : length (take 3 (drop 5 (take fileBlockBytes file))) ≡ 3 = simp (length-take, length-drop) (omega arith) in
       let spare : take 3 (drop 5 file) ≡ 0 ∷ 0 ∷ 0 ∷ [] =
-      sym (take-drop-take 3 5 512 file (omega arith)) ∙ all-zero-replicate _ (not-false _ (passes-when (passes-then p))) ∙ ap (λ n. replicate n 0) three in
+      sym (take-drop-take 3 5 fileBlockBytes file (omega arith)) ∙ all-zero-replicate _ (not-false _ (passes-when (passes-then p))) ∙ ap (λ n. replicate n 0) three in
       ap (take 4) (drop-cons file 4 0 (omega arith)) ∙ rw (version, spare)
 
   number-told : (k : ℕ) → k ≤ 16 → take 4 (drop k (drop 4 file)) ≡ four (fourAt file (4 + k))
@@ -87,4 +87,4 @@ module _ (file : List ℕ) (l : 512 ≤ length file) (b : UpTo 255 file) (p : Pa
   unfolding headingTests
   heading-is =
       file-block-is 0 20 (fileBlockAt file 0) (length-fileBlockAt file 0 l) (bytes-fileBlockAt file 0 b) (passes-first (passes-first p))
-      ∙ ap (fileBlockOf 0) (ap (take 20) (contents-at file 0) ∙ take-take 20 504 (drop 4 file) (omega arith) ∙ twenty)
+      ∙ ap (fileBlockOf 0) (ap (take 20) (contents-at file 0) ∙ take-take 20 contentBytes (drop 4 file) (omega arith) ∙ twenty)

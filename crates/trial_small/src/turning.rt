@@ -5,7 +5,8 @@ use scope::RunCell;
 use scope::Verdict;
 ghost use mathlib.Core.Path.{_≡_};
 ghost use mathlib.Core.Bool.{true};
-ghost use Rattle.scope.specs.Run.{ValidRun, IsBlock};
+ghost use Rattle.scope.specs.Run.{ValidRun};
+ghost use Rattle.scope.specs.InnerBlock.{IsBlock};
 
 // Whether both are within the limits, and the second is a block of the first.
 fn is_block(run: Run, block: Run) -> bool

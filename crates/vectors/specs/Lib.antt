@@ -2,3 +2,4 @@ pub mod Vectors
 pub mod Promise
 pub mod InnerSequence
 pub mod InnerBasis
+pub mod Table

@@ -4,7 +4,7 @@ use Prim.Native.Nat.{_-_, _+_}
 use mathlib.Core.Path.{_≡_, ap, _∙_}
 use borrow.Author.Needs.{needs}
 use native.Mathlib.Omega.{arith}
-use Rattle.fileblocks.specs.FileBlock.{weighted, checkOf}
+use Rattle.fileblocks.specs.FileBlock.{checkAt, weighted, checkOf}
 use Rattle.fileblocks.proofs.Number.{Summed, summed-none, summed-more, term-small}
 use Rattle.fileblocks.proofs.check.Statement.{statement}
 use Rattle.fileblocks.proofs.check.Tie as tie
@@ -13,7 +13,7 @@ abbrev Inv-loop : tie.InvT-loop
 Inv-loop block sum₀ k₀ sum k = Summed block k sum
 
 abbrev μ-loop : tie.MeasureT-loop
-μ-loop block sum₀ k₀ sum k = 508 - k
+μ-loop block sum₀ k₀ sum k = checkAt - k
 
 loop-holds : tie.Need-loop-holds Inv-loop μ-loop
 loop-holds c = summed-none _
@@ -48,7 +48,7 @@ loop-again c = summed-more (c .before .before .before .loop .inv) (c .before .be
 returns : tie.Need-returns Inv-loop μ-loop
 unfolding checkOf
 returns c =
-    let all : c .before .loop .k ≡ 508 = omega arith in
+    let all : c .before .loop .k ≡ checkAt = omega arith in
     c .before .loop .inv .is ∙ ap (λ k. 1 + weighted (c .before .before .before .args .block .now) k) all
 
 pub check-spec : {M : Type 1} → statement M

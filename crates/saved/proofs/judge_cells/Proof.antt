@@ -5,6 +5,7 @@ use native.Mathlib.Omega.{arith}
 use borrow.Author.Needs.{needs}
 use lib.ListN.{length, length-take, length-drop}
 use Rattle.scope.proofs.Judged.{refuse-verdict, grant-verdict}
+use Rattle.fileblocks.specs.FileBlock.{fileBlockBytes, contentBytes}
 use Rattle.saved.specs.File.{fileBlocksFor, fileLength}
 use Rattle.saved.proofs.Cells.{more-file-blocks}
 use Rattle.saved.proofs.Judging.{CellsJudged, judged-none, judged-more, judged-fails, judged-all}
@@ -15,7 +16,7 @@ abbrev Inv-loop : tie.InvT-loop
 Inv-loop size file k₀ k = CellsJudged size file k
 
 abbrev μ-loop : tie.MeasureT-loop
-μ-loop size file k₀ k = size - 504 * k
+μ-loop size file k₀ k = size - contentBytes * k
 
 loop-holds : tie.Need-loop-holds Inv-loop μ-loop
 loop-holds c = judged-none
@@ -59,7 +60,7 @@ judge-file-block-requires : tie.Need-judge-file-block-requires Inv-loop μ-loop
 unfolding fileLength
 judge-file-block-requires c κs =
     let b = more-file-blocks (c .before .loop-test .taken) in
-    let long : 512 * (c .before .before .loop .k + 1) + 512 ≤ length (c .before .before .before .before .args .file .now) = omega arith in
+    let long : fileBlockBytes * (c .before .before .loop .k + 1) + fileBlockBytes ≤ length (c .before .before .before .before .args .file .now) = omega arith in
     simp (length-take, length-drop) (omega arith)
 
 enum-known-number : tie.Need-enum-known-number Inv-loop μ-loop

@@ -8,7 +8,7 @@ use Rattle.scope.specs.Refusal.{_when_, _andThen_, Layout, number}
 use Rattle.scope.proofs.Judged.{Passes, broken, sound, first, then, both, fine, blamed, refuse-verdict, grant-verdict}
 use Rattle.fileblocks.specs.FileBlock.{fileBlockTests}
 use Rattle.saved.specs.File.{headingTests}
-use Rattle.fileblocks.proofs.Differs.{differs, agrees}
+use Rattle.scope.proofs.Differs.{differs, agrees}
 use Rattle.saved.proofs.judge_heading.Statement.{statement}
 use Rattle.saved.proofs.judge_heading.Tie as tie
 

@@ -4,6 +4,7 @@ use Prim.Native.Nat.{_*_, _-_}
 use native.Mathlib.Omega.{arith}
 use borrow.Author.Needs.{needs}
 use lib.ListN.{length, length-take, length-drop}
+use Rattle.fileblocks.specs.FileBlock.{contentBytes}
 use Rattle.saved.specs.File.{fileBlocksFor}
 use Rattle.fileblocks.proofs.Writing.{written-length}
 use Rattle.saved.proofs.Cells.{CellsWritten, cells-none, cells-more, cells-room, cells-all}
@@ -14,7 +15,7 @@ abbrev Inv-loop : tie.InvT-loop
 Inv-loop map room₀ k₀ room k = CellsWritten map room₀ room k
 
 abbrev μ-loop : tie.MeasureT-loop
-μ-loop map room₀ k₀ room k = length map - 504 * k
+μ-loop map room₀ k₀ room k = length map - contentBytes * k
 
 loop-holds : tie.Need-loop-holds Inv-loop μ-loop
 loop-holds c = cells-none (c .before .before .pre .0) (c .before .before .pre .1)

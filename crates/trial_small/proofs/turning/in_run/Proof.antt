@@ -4,7 +4,7 @@ use native.Mathlib.Omega.{arith}
 use mathlib.Core.Path.{refl, ap}
 use Rattle.scope.specs.declared.Run.{Run}
 use Rattle.scope.specs.declared.BlockCell.{BlockCell}
-use Rattle.scope.specs.Run.{IsBlock}
+use Rattle.scope.specs.InnerBlock.{IsBlock}
 use Rattle.scope.proofs.Numbering.{shift-first}
 use Rattle.trial_small.proofs.turning.in_run.Statement.{statement}
 use Rattle.trial_small.proofs.turning.in_run.Tie as tie

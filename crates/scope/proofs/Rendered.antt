@@ -6,12 +6,12 @@ use mathlib.Core.Bool.{Bool, true, false}
 use mathlib.Core.List.{List, [], _∷_, _++_}
 use mathlib.Core.Option.{Option, some, none}
 use native.Mathlib.Omega.{arith}
 use Rattle.scope.specs.Refusal.{Reason, Complaint, Tests, _when_, _andThen_, ofSource, nothing, orElse, complaint, number}
 use Rattle.scope.specs.Reply.{Said, refused, reply, stored}
 use Rattle.scope.proofs.Judged.{Fails, Passes, broken, sound, first, then, both, source-fails, source-passes, no-tests, refuse-reply, refuse-stored, said-refused, number-some}
 use Rattle.scope.proofs.Limits.{passes-first, passes-then, passes-source}
 use Rattle.scope.proofs.Hits.{hit-or-miss}
-use Rattle.demands.specs.Table.{Row, _given_, Says, Silent}
+use Rattle.scope.specs.Table.{Row, _given_, Says, Silent}
 
 -- the tests say what the table says
 pub record Renders (tests : Tests) (table : List Row) : Type 0 where
