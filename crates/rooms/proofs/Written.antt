@@ -1,4 +1,4 @@
--- The laws of `Written`: storing one byte, writing nothing, two pieces one after the other; what the room then holds; that nothing else fits.
+-- The laws of `Written`: storing one byte, writing nothing, two pieces one after the other; what the room then holds.
 -- Assumes nothing.
 use Prim.Native.Nat.{ℕ, _+_, _<_, _≤_}
 use mathlib.Core.Path.{_≡_, refl, sym, ap, _∙_}
@@ -23,12 +23,12 @@ module _ {room : List ℕ} {at : ℕ} {bytes : List ℕ} {next : ℕ} {after : L
   length-front : at ≤ length room → length (take at room ++ bytes) ≡ next
   length-front h = simp (length-append, length-take-le) (sym (w .ends))
 
-  -- before the next place: what stood before `at`, then the bytes
-  pub written-front : at ≤ length room → take next after ≡ take at room ++ bytes
+  -- up to `next`: what stood before `at`, then the bytes
+  written-front : at ≤ length room → take next after ≡ take at room ++ bytes
   written-front h = ap (take next) (w .kept) ∙ take-at (take at room ++ bytes) (drop next room) next (length-front h)
 
-  -- from the next place on: what stood there
-  pub written-back : at ≤ length room → drop next after ≡ drop next room
+  -- from `next` on: what stood there
+  written-back : at ≤ length room → drop next after ≡ drop next room
   written-back h = ap (drop next) (w .kept) ∙ drop-at (take at room ++ bytes) (drop next room) next (length-front h)
 
   -- a room keeps its length
@@ -51,9 +51,3 @@ module _ {room : List ℕ} {at : ℕ} {bytes : List ℕ} {next : ℕ} {after : L
         ends = v .ends ∙ omega (arith, w .ends, length-append bytes more);
         kept = v .kept ∙ rw (written-front h, skip) (simp append-assoc);
       }
-
-  -- nothing else fits
-  pub written-unique : {next′ : ℕ} {after′ : List ℕ} → Written room at bytes next′ after′ → (next ≡ next′) × (after ≡ after′)
-  written-unique v =
-      let e = w .ends ∙ sym (v .ends) in
-      (e, w .kept ∙ ap (λ n. take at room ++ bytes ++ drop n room) e ∙ sym (v .kept))
