@@ -70,9 +70,17 @@ fn functions(text: &str, start: &str, end: &str) -> Vec<(String, Vec<String>, St
 #[test]
 fn declarations_are_the_exports() {
     let (rattle, rust) = (plain(RATTLE), plain(RUST));
-    assert_eq!(structs(&rust), structs(&rattle));
+    let answers = structs(&rattle);
+    assert_eq!(structs(&rust), answers);
+    assert_eq!(answers.len(), rattle.matches("struct ").count());
+    assert_eq!(answers.len(), rust.matches("struct ").count());
+    assert!(answers.iter().all(|(_, fields)| fields.len() >= 3));
     let exported = functions(&rattle, "#[no_mangle] pub extern \"C\" fn ", " ensures");
     assert_eq!(functions(&rust, "pub fn ", ";"), exported);
     assert_eq!(exported.len(), rattle.matches("no_mangle").count());
     assert!(exported.len() >= 7);
+    for (name, _, answer) in &exported {
+        let known = answers.iter().any(|(struct_name, _)| struct_name == answer);
+        assert!(known || answer == "u8", "{} answers with {}", name, answer);
+    }
 }

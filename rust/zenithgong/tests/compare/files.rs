@@ -1,14 +1,15 @@
+use crate::library;
 use crate::support::{trials, wide, Random};
 use zenithgong::Run;
 
 fn ours_read(file: &[u8], map: &mut [u8]) -> Result<reference::Run, u8> {
-    zenithgong::read(file, map)
+    library::read(file, map)
         .map(wide)
         .map_err(|refusal| refusal.0)
 }
 
 /// Reads a file into a room of this length, held to the reference.
-fn compare_read(random: &mut Random, file: &[u8], length: usize) {
+pub fn compare_read(random: &mut Random, file: &[u8], length: usize) {
     let mut map = random.bytes(length);
     let mut after = map.clone();
     let expected = reference::read(file, &mut after);
@@ -26,17 +27,17 @@ fn compare_read(random: &mut Random, file: &[u8], length: usize) {
 }
 
 /// Saves a map into a room of this length, held to the reference.
-fn compare_save(random: &mut Random, run: Run, map: &[u8], length: usize) {
+pub fn compare_save(random: &mut Random, run: Run, map: &[u8], length: usize) {
     let mut file = random.bytes(length);
     let mut after = file.clone();
     let expected = reference::save(&wide(run), map, &mut after);
-    let said = zenithgong::save(run, map, &mut file).map_err(|refusal| refusal.0);
+    let said = library::save(run, map, &mut file).map_err(|refusal| refusal.0);
     assert_eq!(said, expected, "{:?}, a map of {} bytes", run, map.len());
     assert!(file == after, "{:?}: the files differ", run);
 }
 
 /// Writes the check of the block that has this byte, so that only what stands before it is wrong.
-fn seal(file: &mut [u8], byte: usize) {
+pub fn seal(file: &mut [u8], byte: usize) {
     let block = &mut file[byte / 512 * 512..][..512];
     let check = reference::check(block).to_le_bytes();
     block[508..].copy_from_slice(&check);
@@ -59,57 +60,65 @@ fn saved_and_read() {
         let file = reference::file_of(&wide(run), &map);
         let length = if random.one_in(10) { cells ^ 1 } else { cells };
         compare_read(random, &file, length);
-        2
     });
 }
 
-/// The file of the document's run of 20 cells, and one whose cells fill a block and a part of the next.
-fn examples(random: &mut Random) -> [Vec<u8>; 2] {
-    let small = Run {
-        window: 4,
-        interval: 10,
-        first: 1,
-        last: 5,
-    };
-    let large = Run {
-        window: 100,
-        interval: 7,
-        first: 3,
-        last: 8,
-    };
-    [small, large].map(|run| {
-        let map = random.bytes(wide(run).cells() as usize);
-        reference::file_of(&wide(run), &map)
+/// A file, and how many cells it has.
+struct Example {
+    file: Vec<u8>,
+    cells: usize,
+}
+
+/// The document's run of 20 cells; 504 cells, which fill a block; two more, up to the last line; and 600.
+fn examples(random: &mut Random) -> [Example; 4] {
+    let runs = [
+        (4, 10, 1, 5),
+        (4, 1, 100, 225),
+        (2, 4_294_967_295, 16_776_964, 16_777_216),
+        (100, 7, 3, 8),
+    ];
+    runs.map(|(window, interval, first, last)| {
+        let run = wide(Run {
+            window,
+            interval,
+            first,
+            last,
+        });
+        let cells = run.cells() as usize;
+        let file = reference::file_of(&run, &random.bytes(cells));
+        Example { file, cells }
     })
 }
 
+/// Every byte of the heading is changed in every way, with its check as it was and put right; in the other blocks of all but
+/// the first file, in every fourth way.
 #[test]
 fn every_byte_changed() {
     trials("every byte of a file changed", 1, |random| {
-        let mut calls = 0;
-        for (file, cells) in examples(random).iter().zip([20, 600]) {
+        for (k, Example { file, cells }) in examples(random).iter().enumerate() {
             for byte in 0..file.len() {
                 for change in 1..=255u8 {
+                    let heading = byte < 32;
                     let mut damaged = file.clone();
                     damaged[byte] ^= change;
-                    if change % 8 == 7 {
-                        seal(&mut damaged, byte);
+                    if heading || k == 0 || change % 4 == 3 {
+                        compare_read(random, &damaged, *cells);
                     }
-                    if cells == 20 || change % 4 == 3 {
-                        compare_read(random, &damaged, cells);
-                        calls += 1;
+                    if heading || change % 32 == 7 {
+                        seal(&mut damaged, byte);
+                        compare_read(random, &damaged, *cells);
                     }
                 }
             }
         }
-        calls
     });
 }
 
 #[test]
 fn two_bytes_changed() {
     trials("two bytes of a file changed", 20_000, |random| {
-        let mut file = examples(random)[random.below(2) as usize].clone();
+        let kind = random.below(4) as usize;
+        let Example { mut file, cells } = examples(random).into_iter().nth(kind).unwrap();
         for _ in 0..2 {
             let byte = match random.below(2) {
                 0 => random.below(32) as usize,
@@ -118,24 +127,26 @@ fn two_bytes_changed() {
             file[byte] = random.number() as u8;
             seal(&mut file, byte);
         }
-        compare_read(random, &file, 20);
-        1
+        compare_read(random, &file, cells);
     });
 }
 
+/// A block more at the end has its number and its check, or nothing but zeros.
 #[test]
 fn every_length() {
     trials("every length of a file", 1, |random| {
-        let mut calls = 0;
-        for file in examples(random) {
+        for Example { file, cells } in examples(random) {
             for length in 0..=2 * file.len() {
                 let mut other = file.clone();
                 other.resize(length, 0);
-                compare_read(random, &other, 20);
-                calls += 1;
+                compare_read(random, &other, cells);
+                if length == file.len() + 512 {
+                    other[file.len()] = (file.len() / 512) as u8;
+                    seal(&mut other, file.len());
+                    compare_read(random, &other, cells);
+                }
             }
         }
-        calls
     });
 }
 
@@ -161,6 +172,5 @@ fn of_65_536_cells() {
             }
             compare_read(random, &damaged, 65_536);
         }
-        2 + (file.len() as u64 + 250) / 251
     });
 }

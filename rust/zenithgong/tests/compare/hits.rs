@@ -1,8 +1,9 @@
+use crate::library;
 use crate::support::{trials, wide, Random};
 use zenithgong::{FirstHit, Listing, Run};
 
 fn ours_first(run: Run, period: u32, start: u64) -> Result<Option<i128>, u8> {
-    match zenithgong::first_hit(run, period, start) {
+    match library::first_hit(run, period, start) {
         Ok(FirstHit::At(cell)) => Ok(Some(cell as i128)),
         Ok(FirstHit::Nothing) => Ok(None),
         Err(refusal) => Err(refusal.0),
@@ -15,7 +16,7 @@ fn ours_listing(
     start: u64,
     room: &mut [u64],
 ) -> Result<(usize, Option<i128>), u8> {
-    match zenithgong::list_hits(run, period, start, room) {
+    match library::list_hits(run, period, start, room) {
         Ok(Listing::Done(count)) => Ok((count, None)),
         Ok(Listing::More(count, next)) => Ok((count, Some(next as i128))),
         Err(refusal) => Err(refusal.0),
@@ -45,6 +46,12 @@ fn compare(random: &mut Random, run: Run, period: u32, start: u64, length: usize
     assert!(room == after, "{}: the rooms differ", words());
 }
 
+/// The same in a run that may be refused, or has few cells.
+pub fn compare_any(random: &mut Random, run: Run, period: u32, start: u64, length: usize) {
+    let hits = reference::hits_of(&wide(run), period as i128);
+    compare(random, run, period, start, length, &hits);
+}
+
 #[test]
 fn every_start_of_small_runs() {
     trials("every start of small runs", 4_500, |random| {
@@ -56,7 +63,6 @@ fn every_start_of_small_runs() {
             let length = random.below(hits.len() as u64 + 2) as usize;
             compare(random, run, period, start, length, &hits);
         }
-        2 * (cells + 1)
     });
 }
 
@@ -64,34 +70,82 @@ fn every_start_of_small_runs() {
 fn anything() {
     trials("any hits", 60_000, |random| {
         let (run, period) = (random.any_run(), random.number());
-        let hits = reference::hits_of(&wide(run), period as i128);
         let start = match random.below(4) {
             0 => random.next(),
             _ => random.below(80),
         };
         let length = random.below(4) as usize;
-        compare(random, run, period, start, length, &hits);
-        2
+        compare_any(random, run, period, start, length);
     });
+}
+
+/// All hits of a run, listed through a room of this length, each call going on where the one before stopped.
+fn listed(run: Run, period: u32, length: usize) -> Vec<i128> {
+    let mut room = vec![0; length];
+    let (mut listed, mut start) = (Vec::new(), 0);
+    loop {
+        let (count, next) = ours_listing(run, period, start, &mut room).unwrap();
+        listed.extend(room[..count].iter().map(|&x| x as i128));
+        match next {
+            Some(x) => start = x as u64,
+            None => return listed,
+        }
+    }
 }
 
 #[test]
 fn going_on_where_it_stopped() {
     trials("listings through small rooms", 3_000, |random| {
         let (run, period) = (random.small_run(), random.period());
-        let mut room = vec![0; random.between(1, 4) as usize];
-        let (mut listed, mut start, mut calls) = (Vec::new(), 0, 0);
-        loop {
-            calls += 1;
-            let (count, next) = ours_listing(run, period, start, &mut room).unwrap();
-            listed.extend(room[..count].iter().map(|&x| x as i128));
-            match next {
-                Some(x) => start = x as u64,
-                None => break,
-            }
+        let length = random.between(1, 4) as usize;
+        let hits = reference::hits_of(&wide(run), period as i128);
+        assert_eq!(listed(run, period, length), hits);
+    });
+}
+
+#[test]
+fn of_blocks() {
+    trials("listings of blocks", 3_000, |random| {
+        let (run, period) = (random.small_run(), random.period());
+        let (mut joined, mut first) = (Vec::new(), run.first);
+        while first <= run.last {
+            let last = (first + random.below(4) as u32).min(run.last);
+            let shift = ((first - run.first) * run.window) as i128;
+            let block = listed(
+                Run { first, last, ..run },
+                period,
+                random.between(1, 4) as usize,
+            );
+            joined.extend(block.iter().map(|x| x + shift));
+            first = last + 1;
         }
-        assert_eq!(listed, reference::hits_of(&wide(run), period as i128));
-        calls
+        assert_eq!(joined, reference::hits_of(&wide(run), period as i128));
+    });
+}
+
+#[test]
+fn long_runs() {
+    trials("runs of 300,000 lines up to the last", 40, |random| {
+        let run = Run {
+            window: 2 * random.between(1, 2_048),
+            interval: 4_294_967_295 - random.below(100_000) as u32,
+            first: 16_477_217,
+            last: 16_777_216,
+        };
+        let period = match random.below(2) {
+            0 => 2_147_483_647 - random.below(1_000) as u32,
+            _ => {
+                let longest = 2_147_483_647 >> random.below(18);
+                random.between(4_096, longest)
+            }
+        };
+        let hits = wide(run).hits_by_line(period as i128);
+        let cells = wide(run).cells() as u64;
+        for _ in 0..20 {
+            let start = random.below(cells);
+            let length = random.between(1, 9) as usize;
+            compare(random, run, period, start, length, &hits);
+        }
     });
 }
 
@@ -123,6 +177,5 @@ fn longest_runs() {
                 compare(random, run, period, start, length, &hits);
             }
         }
-        2 + 500 * 10
     });
 }

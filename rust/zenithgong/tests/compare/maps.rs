@@ -1,8 +1,9 @@
+use crate::library;
 use crate::support::{trials, wide, Random};
 use zenithgong::Run;
 
 fn ours(run: Run, periods: &[u32], weights: &[u32], map: &mut [u8]) -> Result<(), u8> {
-    zenithgong::add_to_map(run, periods, weights, map).map_err(|refusal| refusal.0)
+    library::add_to_map(run, periods, weights, map).map_err(|refusal| refusal.0)
 }
 
 /// Periods and weights of so many sources, all within the limits.
@@ -13,7 +14,7 @@ fn sources(random: &mut Random, count: u64) -> (Vec<u32>, Vec<u32>) {
 }
 
 /// One call, held to the reference, which goes by all cells or by lines; and the reference's map after it.
-fn compare(run: Run, periods: &[u32], weights: &[u32], map: Vec<u8>, by_line: bool) -> Vec<u8> {
+pub fn compare(run: Run, periods: &[u32], weights: &[u32], map: Vec<u8>, by_line: bool) -> Vec<u8> {
     let (mut map, mut after) = (map.clone(), map);
     let hits = |run: &reference::Run, p: i128| {
         if by_line {
@@ -56,7 +57,6 @@ fn small() {
             random.bytes(length as usize),
             false,
         );
-        1
     });
 }
 
@@ -89,7 +89,6 @@ fn blocks_in_any_order() {
         }
         let words = || format!("{:?}, periods {:?}, weights {:?}", run, periods, weights);
         assert!(map == whole, "{} by {:?}", words(), calls);
-        1 + calls.len() as u64
     });
 }
 
@@ -112,21 +111,33 @@ fn of_65_536_cells() {
         let run = run_of(random, window, 65_536 / window);
         let (periods, weights) = sources(random, 8);
         compare(run, &periods, &weights, random.bytes(65_536), true);
-        1
     });
 }
 
+/// Maps above 1 MiB by at most two lines. Periods below 2,048 are added to them block by block, others not: both come, and all
+/// between. The weights are small, so that few cells come to the ceiling.
 #[test]
 fn long() {
-    trials("long maps", 4, |random| {
-        let window = 2 << random.below(12);
-        let lines = 1_100_000 / window + 3;
+    trials("maps above 1 MiB", 40, |random| {
+        let window = match random.below(3) {
+            0 => 4_096,
+            1 => 2,
+            _ => 2 * random.between(1, 2_048),
+        };
+        let lines = 1_048_576 / window + random.between(1, 2);
         let run = run_of(random, window, lines);
-        let (mut periods, weights) = sources(random, 6);
-        periods[0] = random.between(2_000, 2_100);
-        let map = vec![random.next() as u8; (window * lines) as usize];
+        let source = |random: &mut Random| {
+            let period = match random.below(4) {
+                0 => random.between(1, 2_047),
+                1 => random.between(2_040, 2_055),
+                2 => 2_048 * random.between(1, 6),
+                _ => random.between(1, 2_147_483_647),
+            };
+            (period, random.between(1, 60))
+        };
+        let (periods, weights): (Vec<_>, Vec<_>) = (0..6).map(|_| source(random)).unzip();
+        let map = random.bytes((window * lines) as usize);
         compare(run, &periods, &weights, map, true);
-        1
     });
 }
 
@@ -141,6 +152,5 @@ fn of_the_longest_run() {
         };
         let map = vec![random.next() as u8; 33_554_432];
         compare(run, &[1_000_003, 2_147_483_647], &[200, 100], map, true);
-        1
     });
 }

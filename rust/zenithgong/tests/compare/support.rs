@@ -1,4 +1,5 @@
-//! Random inputs, one seed a trial, and the count of calls.
+//! Random inputs, one seed a trial; what a trial calls is counted.
+use crate::library::calls;
 use zenithgong::Run;
 
 /// Numbers at and around which something changes.
@@ -14,12 +15,25 @@ const EDGES: [u64; 8] = [
 ];
 
 /// Splitmix: a sequence for each seed.
-pub struct Random(u64);
+pub struct Random {
+    state: u64,
+    seed: u64,
+}
 
 impl Random {
+    fn of(seed: u64) -> Random {
+        let state = seed.wrapping_mul(0x2545_f491_4f6c_dd1d);
+        Random { state, seed }
+    }
+
+    /// The number of the trial, so that trials may go through cases in turn.
+    pub fn seed(&self) -> u64 {
+        self.seed
+    }
+
     pub fn next(&mut self) -> u64 {
-        self.0 = self.0.wrapping_add(0x9e37_79b9_7f4a_7c15);
-        let mut z = self.0;
+        self.state = self.state.wrapping_add(0x9e37_79b9_7f4a_7c15);
+        let mut z = self.state;
         z = (z ^ (z >> 30)).wrapping_mul(0xbf58_476d_1ce4_e5b9);
         z = (z ^ (z >> 27)).wrapping_mul(0x94d0_49bb_1331_11eb);
         z ^ (z >> 31)
@@ -115,13 +129,13 @@ impl Drop for Named<'_> {
     }
 }
 
-/// Runs a trial, which tells its calls, once for each seed.
-pub fn trials(name: &str, seeds: u64, trial: impl Fn(&mut Random) -> u64) {
-    let mut calls = 0;
+/// Runs a trial once for each seed, and tells how often it has called the library.
+pub fn trials(name: &str, seeds: u64, trial: impl Fn(&mut Random)) {
+    let before = calls();
     for seed in 0..seeds {
         let named = Named(name, seed);
-        calls += trial(&mut Random(seed.wrapping_mul(0x2545_f491_4f6c_dd1d)));
+        trial(&mut Random::of(seed));
         drop(named);
     }
-    println!("calls {} {}", calls, name);
+    println!("calls {} {}", calls() - before, name);
 }

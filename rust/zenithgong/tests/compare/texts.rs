@@ -1,8 +1,9 @@
+use crate::library;
 use crate::support::{trials, wide, Random};
 
 /// Reads a text, held to the reference.
-fn compare(text: &[u8]) {
-    let ours = match zenithgong::read_text(text) {
+pub fn compare(text: &[u8]) {
+    let ours = match library::read_text(text) {
         Ok(input) => {
             let source = |&(p, w): &(u32, u32)| (p as i128, w as i128);
             Ok((
@@ -49,7 +50,6 @@ fn text(random: &mut Random) -> Vec<u8> {
 fn of_the_form() {
     trials("texts of the form", 20_000, |random| {
         compare(&text(random));
-        1
     });
 }
 
@@ -68,7 +68,6 @@ fn damaged() {
             _ => text.push(byte),
         }
         compare(&text);
-        1
     });
 }
 
@@ -83,7 +82,6 @@ fn every_byte_changed() {
                 compare(&other);
             }
         }
-        256 * text.len() as u64
     });
 }
 
@@ -96,11 +94,7 @@ fn with_sources(head: &str, source: &str, count: usize) -> Vec<u8> {
 fn limits() {
     trials("texts at the limits", 1, |_| {
         let run = "run 4 10 1 5\n";
-        let mut calls = 0;
-        let mut tried = |text: Vec<u8>| {
-            compare(&text);
-            calls += 1;
-        };
+        let tried = |text: Vec<u8>| compare(&text);
         for count in [0, 1, 63, 64, 65, 400] {
             tried(with_sources(run, "src 7 60\n", count));
         }
@@ -137,6 +131,99 @@ fn limits() {
         ] {
             tried(text.as_bytes().to_vec());
         }
-        calls
+    });
+}
+
+/// A text of this length, whose sources are 8 bytes each but for the first.
+fn of_length(length: usize) -> Vec<u8> {
+    let (head, last) = ("run 4 10 1 5\nsrc 1", " 1\n");
+    let sources = (length - head.len() - last.len()) / 8;
+    let digits = (length - head.len() - last.len()) % 8;
+    [
+        head,
+        &"0".repeat(digits),
+        last,
+        &"src 1 1\n".repeat(sources),
+    ]
+    .concat()
+    .into_bytes()
+}
+
+#[test]
+fn longest() {
+    trials("texts of about 4,096 bytes", 1, |_| {
+        for length in 4_080..=4_110 {
+            let text = of_length(length);
+            assert_eq!(text.len(), length);
+            let number = if length <= 4_096 { 12 } else { 11 };
+            assert_eq!(reference::read_text(&text), Err(number));
+            compare(&text);
+        }
+    });
+}
+
+/// Lines that are not of the form, each as the first of a text, as its last, and alone.
+#[test]
+fn malformed() {
+    const LINES: [&str; 44] = [
+        "",
+        "x",
+        "\0",
+        "run",
+        "src",
+        "run 4 10 1",
+        "run 4 10 1 ",
+        "run 4 10 1 5 6",
+        "run\t4 10 1 5",
+        " run 4 10 1 5",
+        "run 4 10 1 5 ",
+        "run  4 10 1 5",
+        "run 4 10 1  5",
+        "run 4 10 1 5\r",
+        "Run 4 10 1 5",
+        "ru 4 10 1 5",
+        "runs 4 10 1 5",
+        "run 04 10 1 5",
+        "run 4 10 1 05",
+        "run 4 00 1 5",
+        "run +4 10 1 5",
+        "run -4 10 1 5",
+        "run 4 1O 1 5",
+        "run 4 10 1 5.",
+        "run 4 0x10 1 5",
+        "run 4 10 1 5x",
+        "run 4294967296 10 1 5",
+        "src 7",
+        "src 7 ",
+        "src 7 60 0",
+        "src 7  60",
+        "src 7 60 ",
+        "src 7 60\r",
+        " src 7 60",
+        "source 7 60",
+        "SRC 7 60",
+        "src 07 60",
+        "src 7 060",
+        "src 7 +60",
+        "src 7 6O",
+        "src 7 4294967356",
+        "src 4294967296 60",
+        "src 18446744073709551623 60",
+        "src 7 99999999999999999999999999",
+    ];
+    trials("malformed lines", 1, |_| {
+        let (run, source) = ("run 4 10 1 5\n", "src 7 60\n");
+        for line in LINES {
+            for text in [
+                format!("{}\n", line),
+                format!("{}\n{}", line, source),
+                format!("{}{}\n", run, line),
+                format!("{}{}", run, line),
+                format!("{}{}{}\n", run, source, line),
+                format!("{}{}\n{}", run, line, source),
+            ] {
+                compare(text.as_bytes());
+            }
+        }
     });
 }

@@ -1,10 +1,19 @@
+use crate::library;
 use crate::support::{trials, Random};
 use reference::Steps;
 use zenithgong::Vector;
 
+/// One call, held to the reference by 01's conditions.
+pub fn compare(p: u32, r: u32, window: u32) -> Result<Steps, u8> {
+    let steps = ours(p, r, window);
+    let right = reference::are_steps(p as i128, r as i128, window as i128, &steps);
+    assert!(right, "p {} r {} I {}: {:?}", p, r, window, steps);
+    steps
+}
+
 fn ours(p: u32, r: u32, window: u32) -> Result<Steps, u8> {
     let pair = |v: Vector| (v.offset as i128, v.line as i128);
-    match zenithgong::step_vectors(p, r, window) {
+    match library::step_vectors(p, r, window) {
         Ok(zenithgong::Steps::Pair(left, right)) => Ok(Steps::Pair(pair(left), pair(right))),
         Ok(zenithgong::Steps::Single(only)) => Ok(Steps::Single(pair(only))),
         Err(refusal) => Err(refusal.0),
@@ -14,17 +23,14 @@ fn ours(p: u32, r: u32, window: u32) -> Result<Steps, u8> {
 #[test]
 fn every_small_one() {
     trials("every small period, remainder and window", 1, |_| {
-        let mut calls = 0;
         for p in 0..=24 {
             for r in 0..=p + 1 {
                 for window in 0..=p + 3 {
                     let expected = reference::step_vectors(p as i128, r as i128, window as i128);
                     assert_eq!(ours(p, r, window), expected, "p {} r {} I {}", p, r, window);
-                    calls += 1;
                 }
             }
         }
-        calls
     });
 }
 
@@ -48,10 +54,7 @@ fn any() {
             0 => random.number(),
             _ => 2 * random.between(1, 2048),
         };
-        let steps = ours(p, r, window);
-        let right = reference::are_steps(p as i128, r as i128, window as i128, &steps);
-        assert!(right, "p {} r {} I {}: {:?}", p, r, window, steps);
-        1
+        compare(p, r, window).ok();
     });
 }
 
@@ -61,10 +64,15 @@ fn longest() {
         let p = 2_147_483_647 - random.below(1000) as u32;
         let r = remainder(random, p).min(p - 1);
         let window = 2 * random.between(1, 2048);
-        let steps = ours(p, r, window);
-        assert!(steps.is_ok());
-        let right = reference::are_steps(p as i128, r as i128, window as i128, &steps);
-        assert!(right, "p {} r {} I {}: {:?}", p, r, window, steps);
-        1
+        assert!(compare(p, r, window).is_ok());
+    });
+}
+
+#[test]
+fn with_a_common_factor() {
+    trials("vectors with a large common factor", 20_000, |random| {
+        let (factor, times) = (random.between(1, 6_000), random.between(1, 10_000));
+        let (p, r) = (factor * times, factor * random.below(times as u64) as u32);
+        compare(p, r, 2 * random.between(1, 2_048)).ok();
     });
 }

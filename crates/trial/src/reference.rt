@@ -1,0 +1,127 @@
+// What 01 says of hits, of the map and of a listing, worked out for each cell by itself. Of the library only the type of a run is
+// used here, and no code.
+use crate::numbers;
+use scope::Run;
+
+// Source p hits cell (i, j) exactly when p divides T·j - i: when T·j + I/2 and i + I/2 leave the same remainder.
+fn is_hit(run: Run, period: u32, cell: u64) -> bool {
+    let window = run.window as u64;
+    let line = numbers::add32(run.first, numbers::low32(numbers::quotient(cell, window)));
+    let tick = numbers::product(run.interval, line);
+    let p = period as u64;
+    numbers::rest(numbers::add(tick, window / 2), p)
+        == numbers::rest(numbers::rest(cell, window), p)
+}
+
+// How many cells a run has: its window times its lines.
+pub fn cells(run: Run) -> usize {
+    let lines = numbers::add32(numbers::sub32(run.last, run.first), 1);
+    numbers::product(run.window, lines) as usize
+}
+
+// Whether two runs have the same numbers.
+pub fn same_run(a: Run, b: Run) -> bool {
+    a.window == b.window && a.interval == b.interval && a.first == b.first && a.last == b.last
+}
+
+// What the sources that hit a cell weigh together.
+fn weight_at(run: Run, periods: &[u32], weights: &[u32], cell: u64) -> u32 {
+    let all = periods.len();
+    let mut sum: u32 = 0;
+    let mut k: usize = 0;
+    while k < all {
+        if is_hit(run, periods[k], cell) {
+            sum = numbers::add32(sum, numbers::number_at(weights, k));
+        }
+        k += 1;
+    }
+    sum
+}
+
+// Makes a map what it is to be after all sources are added: a walk over all cells. With one source of weight 1, on zeros, it marks
+// the hits.
+pub fn expect_map(run: Run, periods: &[u32], weights: &[u32], map: &mut [u8]) {
+    let all = map.len();
+    let mut x: usize = 0;
+    while x < all {
+        let sum = numbers::add32(
+            numbers::byte_at(map, x) as u32,
+            weight_at(run, periods, weights, x as u64),
+        );
+        numbers::put_byte(map, x, numbers::low8(numbers::least(255, sum) as u64));
+        x += 1;
+    }
+}
+
+// How many cells of a map are above 0.
+pub fn count_above(map: &[u8]) -> u32 {
+    let all = map.len();
+    let mut count: u32 = 0;
+    let mut x: usize = 0;
+    while x < all {
+        count = numbers::add32(count, (0 < map[x]) as u32);
+        x += 1;
+    }
+    count
+}
+
+// What a listing is to answer: the count written, and the next hit, or the number of cells if there is none.
+pub struct Listed {
+    pub count: usize,
+    pub next: u64,
+}
+
+// Puts a cell into a room, if it is marked, after those that are in it. Answers how many there are then.
+fn put_mark(room: &mut [u64], count: usize, mark: u8, cell: u64) -> usize {
+    if mark == 0 {
+        return count;
+    }
+    numbers::put_long(room, count, cell);
+    std::num::wrapping_add_usize(count, 1)
+}
+
+// Makes a room what it is to be after a listing of the marked cells from a start on.
+pub fn expect_listing(marks: &[u8], start: u64, room: &mut [u64]) -> Listed {
+    let all = marks.len();
+    let size = room.len();
+    let mut count: usize = 0;
+    let mut x = start as usize;
+    while x < all {
+        if marks[x] != 0 && size <= count {
+            return Listed {
+                count,
+                next: x as u64,
+            };
+        }
+        count = put_mark(room, count, marks[x], x as u64);
+        x += 1;
+    }
+    Listed {
+        count,
+        next: all as u64,
+    }
+}
+
+// Whether d, above 0, divides both a and b.
+fn divides_both(d: u32, a: u32, b: u32) -> bool {
+    numbers::rest(a as u64, d as u64) == 0 && numbers::rest(b as u64, d as u64) == 0
+}
+
+// The greatest common divisor of a and b, b above 0, by trying all numbers up to b.
+pub fn greatest_common_divisor(a: u32, b: u32) -> u32 {
+    let mut greatest: u32 = 1;
+    let mut d: u32 = 0;
+    while d < b {
+        d += 1;
+        if divides_both(d, a, b) {
+            greatest = d;
+        }
+    }
+    greatest
+}
+
+// How long the file of so many cells is: block 0, and a block for each 504 cells that are begun.
+pub fn file_length(cells: usize) -> usize {
+    let cells = cells % 16777216;
+    512 * (1 + (cells + 503) / 504)
+}

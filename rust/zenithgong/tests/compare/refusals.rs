@@ -1,0 +1,243 @@
+//! Every set of faults of every call, each fault in one of its forms, and everything else at an end of its range or small. What
+//! is expected is the reference's, which takes the tests in 01's order.
+use crate::support::{trials, Random};
+use crate::{files, hits, maps, texts, vectors};
+use zenithgong::Run;
+
+/// The faults of a run are the first three bits of every set but the vectors'.
+const RUN: u32 = 3;
+
+fn has(faults: u64, fault: u32) -> bool {
+    faults >> fault & 1 == 1
+}
+
+fn pick(random: &mut Random, from: &[u32]) -> u32 {
+    from[random.below(from.len() as u64) as usize]
+}
+
+fn window(random: &mut Random, bad: bool) -> u32 {
+    if bad {
+        pick(random, &[0, 1, 3, 4_095, 4_097, 4_098, u32::MAX])
+    } else {
+        pick(random, &[2, 2, 4, 4_096])
+    }
+}
+
+fn period(random: &mut Random, bad: bool) -> u32 {
+    if bad {
+        pick(random, &[0, 2_147_483_648, u32::MAX])
+    } else {
+        pick(random, &[1, 2_147_483_647])
+    }
+}
+
+fn weight(random: &mut Random, bad: bool) -> u32 {
+    if bad {
+        pick(random, &[0, 256, u32::MAX])
+    } else {
+        pick(random, &[1, 255])
+    }
+}
+
+/// A run of one or two lines.
+fn run(random: &mut Random, faults: u64) -> Run {
+    const LAST: u32 = 16_777_216;
+    let good = [(1, 1), (1, 2), (LAST - 1, LAST), (LAST, LAST)];
+    let bad = [
+        (0, 5),
+        (0, 0),
+        (7, 6),
+        (1, LAST + 1),
+        (LAST + 1, LAST + 1),
+        (u32::MAX, u32::MAX),
+    ];
+    let lines = if has(faults, 1) { &bad[..] } else { &good[..] };
+    let (first, last) = lines[random.below(lines.len() as u64) as usize];
+    let interval = pick(random, &[1, u32::MAX]);
+    Run {
+        window: window(random, has(faults, 0)),
+        interval: if has(faults, 2) { 0 } else { interval },
+        first,
+        last,
+    }
+}
+
+/// A length that is right, or off by a step; of a faulty run the length is that of its numbers, if it is not too long.
+fn length(random: &mut Random, bad: bool, right: i128, step: usize) -> usize {
+    let right = right.clamp(step as i128, 20_000) as usize;
+    match (bad, random.below(2)) {
+        (false, _) => right,
+        (true, 0) => right - step,
+        (true, _) => right + step,
+    }
+}
+
+/// So many sources, of which one may have a faulty period and one a faulty weight.
+fn sources(random: &mut Random, count: usize, faults: u64, fault: u32) -> (Vec<u32>, Vec<u32>) {
+    let mut periods: Vec<u32> = (0..count).map(|_| random.period()).collect();
+    let mut weights: Vec<u32> = (0..count).map(|_| random.between(1, 255)).collect();
+    let at = random.below(count as u64) as usize;
+    periods[at] = period(random, has(faults, fault));
+    let at = random.below(count as u64) as usize;
+    weights[at] = weight(random, has(faults, fault + 1));
+    (periods, weights)
+}
+
+#[test]
+fn of_vectors() {
+    trials("faults of step vectors", 25 * 16, |random| {
+        let faults = random.seed() % 16;
+        let window = window(random, has(faults, 0));
+        let fitting = pick(random, &[window, 2_147_483_647]);
+        let period = match (has(faults, 1), has(faults, 3)) {
+            (true, _) => period(random, true),
+            (_, true) => window.wrapping_sub(1),
+            _ => fitting,
+        };
+        let remainder = if has(faults, 2) {
+            pick(random, &[period, u32::MAX])
+        } else {
+            pick(random, &[0, period.wrapping_sub(1)])
+        };
+        vectors::compare(period, remainder, window).ok();
+    });
+}
+
+#[test]
+fn of_hits() {
+    trials("faults of first hit and listing", 25 * 64, |random| {
+        let faults = random.seed() % 64;
+        let run = run(random, faults);
+        let period = period(random, has(faults, RUN));
+        let cells = crate::support::wide(run).cells().clamp(0, i64::MAX as i128) as u64;
+        let starts = match has(faults, RUN + 1) {
+            true => [cells, cells + 1, u64::MAX],
+            false => [0, cells / 2, cells.saturating_sub(1)],
+        };
+        let start = starts[random.below(3) as usize];
+        let room = if has(faults, RUN + 2) { 0 } else { 3 };
+        hits::compare_any(random, run, period, start, room);
+    });
+}
+
+#[test]
+fn of_maps() {
+    trials("faults of the map", 25 * 128, |random| {
+        let faults = random.seed() % 128;
+        let run = run(random, faults);
+        let (periods, mut weights) = sources(random, 3, faults, RUN + 1);
+        if has(faults, RUN) {
+            weights.pop();
+        }
+        let cells = crate::support::wide(run).cells();
+        let length = length(random, has(faults, RUN + 3), cells, 1);
+        let map = random.bytes(length);
+        maps::compare(run, &periods, &weights, map, false);
+    });
+}
+
+#[test]
+fn of_saving() {
+    trials("faults of saving", 25 * 32, |random| {
+        let faults = random.seed() % 32;
+        let run = run(random, faults);
+        let cells = crate::support::wide(run).cells();
+        let size = length(random, has(faults, RUN), cells, 1);
+        let step = if random.one_in(2) { 1 } else { 512 };
+        let bytes = 512 + (cells.clamp(0, 20_000) + 503) / 504 * 512;
+        let room = length(random, has(faults, RUN + 1), bytes, step);
+        let map = random.bytes(size);
+        files::compare_save(random, run, &map, room);
+    });
+}
+
+/// A file of the document's run, with faults put in: first what stands under a check, then the checks, then the length.
+#[test]
+fn of_reading() {
+    trials("faults of reading", 4 * 1024, |random| {
+        let faults = random.seed() % 1024;
+        let good = Run {
+            window: 4,
+            interval: 10,
+            first: 1,
+            last: 5,
+        };
+        let map = random.bytes(20);
+        let mut file = reference::file_of(&crate::support::wide(good), &map);
+        let bad = run(random, faults);
+        let numbers = [
+            (0, 8, bad.window),
+            (2, 12, bad.interval),
+            (1, 16, bad.first),
+            (1, 20, bad.last),
+        ];
+        for (fault, at, number) in numbers {
+            if has(faults, fault) {
+                file[at..at + 4].copy_from_slice(&number.to_le_bytes());
+            }
+        }
+        if has(faults, RUN) {
+            let at = pick(random, &[4, 5, 7, 24, 507]) as usize;
+            file[at] = random.between(2, 255) as u8;
+        }
+        files::seal(&mut file, 0);
+        if has(faults, RUN + 1) {
+            file[536 + random.below(484) as usize] = 1;
+            files::seal(&mut file, 512);
+        }
+        for (fault, block) in [(RUN + 2, 0), (RUN + 3, 512)] {
+            if has(faults, fault) && random.one_in(2) {
+                file[block] = 2;
+                files::seal(&mut file, block);
+            } else if has(faults, fault) {
+                file[block + 511] = 1;
+            }
+        }
+        if has(faults, RUN + 4) {
+            file.resize(if random.one_in(2) { 512 } else { 1_536 }, 0);
+        }
+        if has(faults, RUN + 5) {
+            file.push(0);
+        }
+        let cells = length(random, has(faults, RUN + 6), 20, 1);
+        files::compare_read(random, &file, cells);
+    });
+}
+
+#[test]
+fn of_texts() {
+    trials("faults of texts", 10 * 256, |random| {
+        let faults = random.seed() % 256;
+        let mut run = run(random, faults);
+        if has(faults, RUN + 1) && !has(faults, 1) {
+            run.last = 16_777_216;
+            run.first = run.last - 65_536 / run.window.max(1);
+        }
+        let count = if has(faults, RUN) {
+            65
+        } else {
+            pick(random, &[1, 5, 64])
+        };
+        let (periods, weights) = sources(random, count as usize, faults, RUN + 2);
+        let mut text = format!(
+            "run {} {} {} {}\n",
+            run.window, run.interval, run.first, run.last
+        );
+        for (period, weight) in periods.iter().zip(weights) {
+            text += &format!("src {} {}\n", period, weight);
+        }
+        if has(faults, RUN + 4) {
+            let ends = [
+                "\n",
+                " \n",
+                "src 1\n",
+                "scr 1 1\n",
+                "src 01 1\n",
+                "src 4294967296 1\n",
+                "src 1 1",
+            ];
+            text += ends[random.below(7) as usize];
+        }
+        texts::compare(text.as_bytes());
+    });
+}
