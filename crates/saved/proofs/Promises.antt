@@ -4,7 +4,6 @@ use mathlib.Core.Path.{_≡_, ap, _∙_}
 use mathlib.Core.List.{List}
 use lib.ListN.{length}
 use Rattle.scope.specs.declared.Run.{Run}
-use Rattle.scope.specs.Run.{cellsOf}
 use Rattle.scope.specs.Refusal.{runTests}
 use Rattle.scope.specs.Reply.{answered}
 use Rattle.scope.proofs.Judged.{Fails, Passes, refuse-reply, refuse-stored, grant-reply, grant-stored}

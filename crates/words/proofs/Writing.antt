@@ -63,12 +63,12 @@ module _ (room : List ℕ) (at : ℕ) (word numbers : List ℕ) (fits : at + len
   unfolding line
   word-written {next} {after} w =
       let l = length-append word (fields numbers) in
-      record { writing = writing-starts after next (fields numbers) (omega (arith, w .ends, written-length w (omega (arith, w .ends)))) }
+      record { writing = writing-starts after next (fields numbers) (omega (arith, w .ends, written-length w)) }
 
   pub line-written : {next : ℕ} {after : List ℕ} {end : ℕ} {last : List ℕ} → Written room at word next after → Written after next (fields numbers) end last
       → Written room at (line word numbers) end last
   unfolding line
-  line-written w v = written-append w (omega arith) v
+  line-written w v = written-append w v
 
 -- ---- how long a line is
 
