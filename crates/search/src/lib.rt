@@ -8,7 +8,7 @@ use vectors::Vector;
 use vectors::first_two;
 use vectors::next;
 ghost use mathlib.Core.Path.{_≡_};
-ghost use Prim.Native.Nat.{ℕ, _+_, _-_, _*_, _%_, _≤_, _<_, max};
+ghost use Prim.Native.Nat.{ℕ, _+_, _-_, _*_, _%_, _≤_, _<_};
 ghost use Rattle.lattice.proofs.Multiples.{Above};
 ghost use Rattle.scope.specs.Run.{ValidRun, ValidSource, cellsOf};
 ghost use Rattle.scope.proofs.Hits.{origin};
@@ -27,13 +27,6 @@ pub enum Found {
     At(Point),
     // No point within the window lies on this line or on a later one up to the last.
     Nothing,
-}
-
-// The larger of two numbers.
-fn wider(a: u64, b: u64) -> u64
-    ensures { λ r. ⌜ r ≡ max a b ⌝ }
-{
-    if a < b { b } else { a }
 }
 
 // How often a step has to be taken to go further than a gap.
@@ -56,7 +49,7 @@ fn approach(before: Vector, last: Vector, at: Point, window: u64) -> Point
         return at;
     }
     if last.offset < 0 {
-        let turns = turns_past(at.distance - wider(m, window), m);
+        let turns = turns_past(at.distance - rooms::larger(m, window), m);
         return Point {
             distance: at.distance - turns * m,
             line: at.line + turns * last.line,
