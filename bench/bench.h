@@ -32,5 +32,8 @@ static inline uint64_t file_of(run r) { return 512 * (1 + (cells_of(r) + 503) / 
 PEERS(gcc)
 PEERS(clang)
 
-// The walk of peers.rs.
+// Those of peers.rs.
+pair rust_vectors(uint32_t period, uint32_t remainder, uint32_t window);
+uint64_t rust_first_hit(run r, uint32_t period, uint64_t start);
+size_t rust_list(run r, uint32_t period, uint64_t start, uint64_t *room, size_t length, uint64_t *next);
 void rust_walk(run r, const uint32_t *periods, const uint32_t *weights, size_t n, uint8_t *map);

@@ -122,7 +122,9 @@ static double call_vectors(int who) {
             zenithgong_step_vectors(&s, p, remainder, r.window);
             v = (pair){{s.alpha, s.beta}, {s.gamma, s.delta}};
         } else {
-            v = who == GCC ? gcc_vectors(p, remainder, r.window) : clang_vectors(p, remainder, r.window);
+            v = who == GCC     ? gcc_vectors(p, remainder, r.window)
+                : who == CLANG ? clang_vectors(p, remainder, r.window)
+                               : rust_vectors(p, remainder, r.window);
         }
         total = total * 31 + v.left.offset + 3 * v.left.line + 5 * v.right.offset + 7 * v.right.line;
     }
@@ -143,7 +145,9 @@ static double call_first(int who) {
             first_hit_reply f = zenithgong_first_hit(at.window, at.interval, at.first, at.last, p, starts[k]);
             cell = f.found ? f.cell : all;
         } else {
-            cell = who == GCC ? gcc_first_hit(at, p, starts[k]) : clang_first_hit(at, p, starts[k]);
+            cell = who == GCC     ? gcc_first_hit(at, p, starts[k])
+                   : who == CLANG ? clang_first_hit(at, p, starts[k])
+                                  : rust_first_hit(at, p, starts[k]);
         }
         total = total * 31 + cell;
     }
@@ -163,6 +167,8 @@ static double call_list(int who) {
             done += l.count;
         } else if (who == GCC) {
             done += gcc_list(at, periods[k], 0, room + done, ROOM - done, &next);
+        } else if (who == RUST) {
+            done += rust_list(at, periods[k], 0, room + done, ROOM - done, &next);
         } else {
             done += clang_list(at, periods[k], 0, room + done, ROOM - done, &next);
         }
@@ -258,21 +264,23 @@ static void measure_all(void) {
                 snprintf(row, sizeof row, "map %s %u %d", SETS[s].name, windows[w], sizes[size]);
                 measure(row, "hit", call_map, "++++++");
             }
-    for (int s = 1; s < 3; s++) {
-        choose(&SETS[s]);
-        take_run(512, 64);
-        for (int k = 0; k < CALLS; k++) starts[k] = any() % cells_of(r);
-        snprintf(row, sizeof row, "vectors %s 512 -", SETS[s].name);
-        measure(row, "call", call_vectors, "+-++--");
-        snprintf(row, sizeof row, "first %s 512 64", SETS[s].name);
-        measure(row, "call", call_first, "+-++--");
-    }
-    for (int s = 0; s < 2; s++) {
-        choose(&SETS[s]);
-        take_run(512, s ? 64 : 1);
-        snprintf(row, sizeof row, "list %s 512 %d", SETS[s].name, s ? 64 : 1);
-        measure(row, "hit", call_list, "+-++--");
-    }
+    for (int s = 1; s < 3; s++)
+        for (int w = 0; w < 3; w++) {
+            choose(&SETS[s]);
+            take_run(windows[w], 64);
+            for (int k = 0; k < CALLS; k++) starts[k] = any() % cells_of(r);
+            snprintf(row, sizeof row, "vectors %s %u -", SETS[s].name, windows[w]);
+            measure(row, "call", call_vectors, "+-+++-");
+            snprintf(row, sizeof row, "first %s %u 64", SETS[s].name, windows[w]);
+            measure(row, "call", call_first, "+-+++-");
+        }
+    for (int s = 0; s < 2; s++)
+        for (int w = 0; w < 3; w++) {
+            choose(&SETS[s]);
+            take_run(windows[w], s ? 64 : 1);
+            snprintf(row, sizeof row, "list %s %u %d", SETS[s].name, windows[w], s ? 64 : 1);
+            measure(row, "hit", call_list, "+-+++-");
+        }
     for (int size = 0; size < 2; size++) {
         take_run(512, sizes[size]);
         for (uint64_t k = 0; k < cells_of(r); k++) map[k] = any();

@@ -9,41 +9,79 @@ pub struct Run {
     last: u32,
 }
 
+#[repr(C)]
+#[derive(Clone, Copy)]
+pub struct Vector {
+    offset: i64,
+    line: u64,
+}
+
+/// Two vectors, or one and zeros.
+#[repr(C)]
+pub struct Pair {
+    left: Vector,
+    right: Vector,
+}
+
+/// The pair of step vectors of a window no wider than the period, or the single one.
+fn vectors(period: u32, remainder: u32, window: u32) -> Pair {
+    let (mut n, mut m, mut b, mut c, mut right) = (period, remainder, 0u64, 1u64, true);
+    while m >= window {
+        (n, m, b, c, right) = (m, n % m, c, b + (n / m) as u64 * c, !right);
+    }
+    if m == 0 {
+        return Pair { left: Vector { offset: 0, line: c }, right: Vector { offset: 0, line: 0 } };
+    }
+    let turns = (n - window) / m + 1;
+    let size = n as i64 - turns as i64 * m as i64;
+    let lines = b + turns as u64 * c;
+    if right {
+        Pair { left: Vector { offset: -size, line: lines }, right: Vector { offset: m as i64, line: c } }
+    } else {
+        Pair { left: Vector { offset: -(m as i64), line: c }, right: Vector { offset: size, line: lines } }
+    }
+}
+
 #[derive(Clone, Copy)]
 struct Step {
     offset: i64,
     cells: u64,
 }
 
-fn step(offset: i64, line: u64, window: u32) -> Step {
-    Step { offset, cells: (line as i64 * window as i64 + offset) as u64 }
+/// What the walk goes by: how far each step leads, and where it may be taken.
+struct Plan {
+    left: Step,
+    right: Step,
+    low: i64,
+    high: i64,
 }
 
-/// The steps to the left and to the right; both are the single vector where there is no pair.
-fn steps(period: u32, remainder: u32, window: u32) -> (Step, Step) {
-    let (mut n, mut m, mut b, mut c, mut right) = (period, remainder, 0u64, 1u64, true);
-    while m >= window {
-        (n, m, b, c, right) = (m, n % m, c, b + (n / m) as u64 * c, !right);
-    }
-    if m == 0 {
-        return (step(0, c, window), step(0, c, window));
-    }
-    let turns = (n - window) / m + 1;
-    let size = n as i64 - turns as i64 * m as i64;
-    let lines = b + turns as u64 * c;
-    if right {
-        (step(-size, lines, window), step(m as i64, c, window))
-    } else {
-        (step(-(m as i64), c, window), step(size, lines, window))
+fn plan(run: Run, period: u32) -> Plan {
+    let width = period.min(run.window);
+    let pair = vectors(period, run.interval % period, width);
+    let right = if pair.right.line == 0 { pair.left } else { pair.right };
+    let step = |v: Vector| Step { offset: v.offset, cells: (v.line as i64 * run.window as i64 + v.offset) as u64 };
+    let edge = -(run.window as i64 / 2);
+    Plan { left: step(pair.left), right: step(right), low: edge - pair.left.offset, high: edge + width as i64 - right.offset }
+}
+
+impl Plan {
+    /// The first hit of the next line that has one.
+    fn next(&self, i: i64, x: u64) -> (i64, u64) {
+        if i >= self.low {
+            (i + self.left.offset, x + self.left.cells)
+        } else if i < self.high {
+            (i + self.right.offset, x + self.right.cells)
+        } else {
+            (i + self.left.offset + self.right.offset, x + self.left.cells + self.right.cells)
+        }
     }
 }
 
-/// The first hit of a run, or a number past its cells.
-fn first_hit(run: Run, period: u32) -> u64 {
+/// The first hit on a line or a later one, or a number past the run's cells; d is the source's distance on that line.
+fn seek(run: Run, period: u32, mut line: u64, mut d: u32) -> u64 {
     let window = run.window;
     let (mut n, mut m, mut b, mut c, mut right) = (period, run.interval % period, 0u64, 1u64, true);
-    let mut line = run.first as u64;
-    let mut d = ((run.interval as u64 * line + window as u64 / 2) % period as u64) as u32;
     while line <= run.last as u64 && d >= window && m != 0 {
         if d >= m && right {
             let turns = (n - d - 1) / m + 1;
@@ -63,6 +101,28 @@ fn first_hit(run: Run, period: u32) -> u64 {
     }
 }
 
+fn distance(run: Run, period: u32, line: u64) -> u32 {
+    ((run.interval as u64 * line + run.window as u64 / 2) % period as u64) as u32
+}
+
+/// The first hit not below a cell, or the number of cells.
+fn first_hit(run: Run, period: u32, start: u64) -> u64 {
+    let window = run.window as u64;
+    let (row, from) = (start / window, start % window);
+    let line = run.first as u64 + row;
+    let d = distance(run, period, line);
+    let at = from + (d as u64 + (period as u64 - from % period as u64)) % period as u64;
+    if at < window {
+        return row * window + at;
+    }
+    let next = ((d as u64 + (run.interval % period) as u64) % period as u64) as u32;
+    seek(run, period, line + 1, next).min(cells(run))
+}
+
+fn cells(run: Run) -> u64 {
+    run.window as u64 * (run.last - run.first + 1) as u64
+}
+
 fn add_rows(run: Run, period: usize, weight: u8, map: &mut [u8]) {
     let mut start = ((run.interval as u64 * run.first as u64 + run.window as u64 / 2) % period as u64) as usize;
     let by = run.interval as usize % period;
@@ -80,24 +140,57 @@ fn add_rows(run: Run, period: usize, weight: u8, map: &mut [u8]) {
 }
 
 fn add_hits(run: Run, period: u32, weight: u8, map: &mut [u8]) {
-    let (left, right) = steps(period, run.interval % period, run.window);
-    let half = run.window as i64 / 2;
-    let (low, high) = (-half - left.offset, half - right.offset);
-    let mut x = first_hit(run, period);
-    let mut i = (x % run.window as u64) as i64 - half;
+    let plan = plan(run, period);
+    let mut x = seek(run, period, run.first as u64, distance(run, period, run.first as u64));
+    let mut i = (x % run.window as u64) as i64 - run.window as i64 / 2;
     while let Some(cell) = map.get_mut(x as usize) {
         *cell = cell.saturating_add(weight);
-        if i >= low {
-            i += left.offset;
-            x += left.cells;
-        } else if i < high {
-            i += right.offset;
-            x += right.cells;
-        } else {
-            i += left.offset + right.offset;
-            x += left.cells + right.cells;
-        }
+        (i, x) = plan.next(i, x);
     }
+}
+
+/// The hits not below a cell into the room, their number, and the first that did not fit or the number of cells.
+fn list(run: Run, period: u32, start: u64, room: &mut [u64]) -> (usize, u64) {
+    let plan = plan(run, period);
+    let (all, window, half) = (cells(run), run.window as u64, run.window as i64 / 2);
+    let mut cell = first_hit(run, period, start);
+    let from = cell % window;
+    let mut x = cell - from + from % period as u64;
+    let mut i = (from % period as u64) as i64 - half;
+    let mut n = 0;
+    while cell < all {
+        let end = x - (i + half) as u64 + window;
+        while cell < end {
+            let Some(slot) = room.get_mut(n) else {
+                return (n, cell);
+            };
+            *slot = cell;
+            n += 1;
+            cell += period as u64;
+        }
+        (i, x) = plan.next(i, x);
+        cell = x;
+    }
+    (n, all)
+}
+
+#[no_mangle]
+pub extern "C" fn rust_vectors(period: u32, remainder: u32, window: u32) -> Pair {
+    vectors(period, remainder, window)
+}
+
+#[no_mangle]
+pub extern "C" fn rust_first_hit(run: Run, period: u32, start: u64) -> u64 {
+    first_hit(run, period, start)
+}
+
+/// # Safety
+/// The room has `length` numbers, and `next` is one.
+#[no_mangle]
+pub unsafe extern "C" fn rust_list(run: Run, period: u32, start: u64, room: *mut u64, length: usize, next: *mut u64) -> usize {
+    let (n, after) = list(run, period, start, std::slice::from_raw_parts_mut(room, length));
+    *next = after;
+    n
 }
 
 /// # Safety

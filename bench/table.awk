@@ -22,33 +22,52 @@ function short(x) { return x == "-" ? "" : x >= 100 ? sprintf("%.0f", x) : x >= 
     ours = name[1] == "count" ? short($3) " a hit" : name[1] == "map" && $5 < 20000 ? short($4 / 1000) " µs a call" : short($3) " ns a " $2
     for (k = 2; k <= 4; k++) if (name[k] == "-") name[k] = ""
     print "| " what[name[1]] " | " name[2] " | " name[3] " | " name[4] " | " ours " | " short($6) " | " short($7) " | " short($8) " | " short($9) " | " short($10) " |"
-    ours_of[$1] = $3; naive[$1] = $6; plain[$1] = $7
+    ours_of[$1] = $3; naive[$1] = $6; gcc[$1] = $7; rust[$1] = $9
 }
 
-function aim(text, value, least) { print "| " text " | ≥ " least " | " short(value) " | " (value >= least ? "met" : "**missed**") " |" }
+function verdict(met) { return met ? "met" : "**missed**" }
+function aim(text, value, least) { print "| " text " | ≥ " least " |  | " short(value) " |  | " verdict(value >= least) " |" }
+
+# A row for each peer: its time over ours at the three windows.
+function peer(text, set, size, least, by, ratio,    at, k, line, met) {
+    met = 1
+    for (k = 1; k <= 3; k++) {
+        at = ratio[set " " windows[k] " " size]
+        line = line " | " short(at)
+        met = met && at >= least
+    }
+    print "| " by " / ours, " text " | ≥ " least line " | " verdict(met) " |"
+}
+function peers(text, set, size, least) {
+    peer(text, set, size, least, "gcc", gcc)
+    peer(text, set, size, least, "Rust", rust)
+}
 
 END {
+    split("64 512 4096", windows, " ")
     print ""
-    print "| aimed at, at a window of 512 | aim | found | |"
-    print "|---|--:|--:|---|"
-    aim("naive / ours, mix, 1 MiB", naive["map mix 512 1"], 2.5)
-    aim("naive / ours, mix, 64 MiB", naive["map mix 512 64"], 4)
-    aim("naive / ours, 2^20, 1 MiB", naive["map 2^20 512 1"], 45)
-    aim("naive / ours, 2^20, 64 MiB", naive["map 2^20 512 64"], 45)
-    aim("naive / ours, 2^31, 1 MiB", naive["map 2^31 512 1"], 45)
-    aim("naive / ours, 2^31, 64 MiB", naive["map 2^31 512 64"], 1000)
-    n = split("mix 512 1,mix 512 64,2^20 512 1,2^20 512 64,2^31 512 1,2^31 512 64", rows, ",")
+    print "| aimed at, at windows of | aim | 64 | 512 | 4096 | |"
+    print "|---|--:|--:|--:|--:|---|"
+    n = split("mix 1 1.0,mix 64 1.0,2^20 1 1.0,2^20 64 1.0,2^31 1 1.5,2^31 64 1.5", rows, ",")
     for (k = 1; k <= n; k++) {
         split(rows[k], name, " ")
-        aim("C walk / ours, " name[1] ", " name[3] " MiB", plain["map " rows[k]], 0.9)
+        peers("map, " name[1] ", " name[2] " MiB", "map " name[1], name[2], name[3])
     }
-    aim("C / ours, first hit, 2^20", plain["first 2^20 512 64"], 0.7)
-    aim("C / ours, first hit, 2^31", plain["first 2^31 512 64"], 0.7)
-    aim("C / ours, vectors, 2^20", plain["vectors 2^20 512 -"], 0.7)
-    aim("C / ours, vectors, 2^31", plain["vectors 2^31 512 -"], 0.7)
-    for (k = 1; k <= n; k++) if (("count " rows[k]) in ours_of) {
+    peers("first hit, 2^20", "first 2^20", 64, 1.0)
+    peers("first hit, 2^31", "first 2^31", 64, 1.0)
+    peers("vectors, 2^20", "vectors 2^20", "-", 0.9)
+    peers("vectors, 2^31", "vectors 2^31", "-", 0.9)
+    peers("listing, mix, 1 MiB", "list mix", 1, 0.9)
+    peers("listing, 2^20, 64 MiB", "list 2^20", 64, 0.9)
+    n = split("mix 1 2.5,mix 64 4,2^20 1 45,2^20 64 45,2^31 1 45,2^31 64 1000", rows, ",")
+    for (k = 1; k <= n; k++) {
+        split(rows[k], name, " ")
+        aim("naive / ours, map, " name[1] ", " name[2] " MiB", naive["map " name[1] " 512 " name[2]], name[3])
+    }
+    n = split("mix 512 1,2^20 512 64", rows, ",")
+    for (k = 1; k <= n; k++) {
         split(rows[k], name, " ")
         v = ours_of["count " rows[k]]
-        print "| instructions a hit, " name[1] ", " name[3] " MiB | ≤ 18 | " short(v) " | " (v <= 18 ? "met" : "**missed**") " |"
+        print "| instructions a hit, " name[1] ", " name[3] " MiB | ≤ 18 |  | " short(v) " |  | " verdict(v <= 18) " |"
     }
 }

@@ -10,7 +10,8 @@ use native.Mathlib.Omega.{arith}
 use lib.ListN.{length, getD, length-append, List·getD-append}
 use lib.Dec.{leb}
 use borrow.Author.Tests.{lt-ltb, le-ltb, leb-true, le-leb}
-use Rattle.decimal.specs.Digits.{digits, digitsWithin, isDigit, beginsWithDigit}
+use Rattle.decimal.specs.Digits.{largest, digits, digitsWithin}
+use Rattle.decimal.specs.Inner.{isDigit, beginsWithDigit}
 
 -- ---- the smallest and the largest number of a text
 
@@ -98,7 +99,7 @@ length-le (suc k) n h =
     ]
 
 -- a number of 32 bits has at most 10 digits
-pub length-32 : (n : ℕ) → n < 2 ^ 32 → length (digits n) ≤ 10
+pub length-32 : (n : ℕ) → n ≤ largest → length (digits n) ≤ 10
 length-32 n h = length-le 9 n (omega arith)
 
 -- a number of 64 bits has at most 20 digits

@@ -1,17 +1,17 @@
--- A text has one reading at a place; what a loop knows that passes one digit after the other: the number so far, and where none can stand;
--- and so there is a reading at every place.
+-- A text is read in one way from each byte on; what a loop knows that passes one digit after the other: the number so far, and where none can stand;
+-- and so there is a reading everywhere.
 -- Assumes nothing.
-use Prim.Native.Nat.{ℕ, zero, suc, _+_, _*_, _-_, _<_, _≤_, _^_}
+use Prim.Native.Nat.{ℕ, zero, suc, _+_, _*_, _-_, _<_, _≤_}
 use mathlib.Core.Path.{_≡_, refl, sym, ap, _∙_}
 use mathlib.Core.Bool.{Bool, true, false, true≢false}
 use mathlib.Core.List.{List, [], _∷_, _++_, append-assoc}
 use native.Mathlib.Numerals.{add-one}
-use native.Mathlib.Decide.{decLt}
+use native.Mathlib.Decide.{decLt, decLe}
 use native.Mathlib.Omega.{arith}
 use lib.ListN.{length, getD, drop, length-append, length-drop, drop-of-length-le}
 use lib.Seq.{drop-cons, drop-drop, drop-append-seam}
-use Rattle.decimal.specs.Digits.{digits, isDigit, beginsWithDigit}
-use Rattle.decimal.specs.Promise.{NumberStands, Reading}
+use Rattle.decimal.specs.Digits.{largest, digits}
+use Rattle.decimal.specs.Inner.{isDigit, beginsWithDigit, NumberStands, Reading}
 use Rattle.decimal.specs.declared.Number.{Number}
 use Rattle.decimal.specs.declared.Number.the-variants.{Value, Bad}
 use Rattle.decimal.proofs.Laws.{
@@ -32,7 +32,7 @@ use Rattle.decimal.proofs.Laws.{
 
 -- ---- there is one at most
 
--- two numbers that stand at one place are the same and end at the same place
+-- two numbers that stand at the same byte are the same and end alike
 pub stands-unique : {text : List ℕ} {at v v′ next next′ : ℕ} → NumberStands text at v next → NumberStands text at v′ next′
     → (v ≡ v′) × (next ≡ next′)
 stands-unique {text} {at} {v} {v′} {next} {next′} a b =
@@ -53,14 +53,14 @@ stands-within {text} {at} {v} {next} s =
     omega (arith, length-pos v, s .ends)
 
 -- a number and what follows it, wherever they are found, stand there
-pub stands : (text : List ℕ) (at v : ℕ) (rest : List ℕ) → v < 2 ^ 32 → drop at text ≡ digits v ++ rest
+pub stands : (text : List ℕ) (at v : ℕ) (rest : List ℕ) → v ≤ largest → drop at text ≡ digits v ++ rest
     → beginsWithDigit rest ≡ false → NumberStands text at v (at + length (digits v))
 stands text at v rest small e ended =
     let d : drop (at + length (digits v)) text ≡ rest =
     sym (drop-drop (length (digits v)) at text) ∙ ap (drop (length (digits v))) e ∙ drop-append-seam (digits v) rest in
     record { small = small; spelled = rw d e; ended = rw d ended; ends = refl }
 
--- ---- a digit at a place
+-- ---- a digit in a text
 
 -- d is the digit at `at`
 pub record Digit (text : List ℕ) (at d : ℕ) : Type 0 where
@@ -91,7 +91,7 @@ digit text at d e begins =
 
 -- the digits passed from `at` up to `next` are those of v
 pub record Passed (text : List ℕ) (at v next : ℕ) : Type 0 where
-  pub small : v < 2 ^ 32
+  pub small : v ≤ largest
   pub spelled : drop at text ≡ digits v ++ drop next text
   pub ends : next ≡ at + length (digits v)
 
@@ -108,7 +108,7 @@ module _ {text : List ℕ} {at : ℕ} where
   longer p g = p .spelled ∙ rw (g .there, append-assoc)
 
   -- a digit more, where it makes no leading zero and the number stays small
-  pub passed-more : {v next d : ℕ} → Passed text at v next → Digit text next d → (v ≡ 0 → ⊥) → v * 10 + d < 2 ^ 32
+  pub passed-more : {v next d : ℕ} → Passed text at v next → Digit text next d → (v ≡ 0 → ⊥) → v * 10 + d ≤ largest
       → Passed text at (v * 10 + d) (next + 1)
   passed-more {v} {next} {d} p g pos small =
       let e = digits-snoc v d (omega arith) (g .small) in
@@ -145,12 +145,12 @@ module _ {text : List ℕ} {at : ℕ} where
       digits-numeral w .first (omega (arith, ap length f)) (ap (λ l. getD l 0 0) f ∙ omega arith)
 
   -- where the digits passed and one digit more are too large
-  pub too-large : {v next d : ℕ} → Passed text at v next → Digit text next d → 2 ^ 32 ≤ v * 10 + d → (w n : ℕ) → NumberStands text at w n → ⊥
+  pub too-large : {v next d : ℕ} → Passed text at v next → Digit text next d → largest < v * 10 + d → (w n : ℕ) → NumberStands text at w n → ⊥
   too-large {v} {next} {d} p g h w n s =
       let (more, e) = begins p g s in
       omega (arith, value-snoc v d, value-prefix w (digits v ++ ((48 + d) ∷ [])) more e, s .small)
 
--- ---- there is a reading at every place
+-- ---- there is a reading everywhere
 
 module _ (text : List ℕ) (at : ℕ) where
   -- after the digits passed: what follows them decides, or a reading after one digit more
@@ -165,7 +165,7 @@ module _ (text : List ℕ) (at : ℕ) where
           let g = digit text next d refl e in
           elim (decLt 0 v) [
             | yes pos ↦
-                elim (decLt (v * 10 + d) (2 ^ 32)) [
+                elim (decLe (v * 10 + d) largest) [
                   | yes small ↦ further (v * 10 + d) (passed-more p g (λ z. omega arith) small)
                   | no large ↦ (Bad, too-large p g (omega arith))
                 ]

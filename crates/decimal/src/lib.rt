@@ -4,21 +4,22 @@ ghost use Prim.Native.Nat.{_+_, _≤_, _<_};
 ghost use mathlib.Core.Path.{_≡_};
 ghost use mathlib.Core.List.{[], _∷_};
 ghost use lib.ListN.{length, drop};
-ghost use Rattle.decimal.specs.Digits.{digits, beginsWithDigit};
-ghost use Rattle.decimal.specs.Promise.{Written, Reading};
+ghost use Rattle.rooms.specs.InnerRooms.{Written};
+ghost use Rattle.decimal.specs.Digits.{digits};
+ghost use Rattle.decimal.specs.Inner.{beginsWithDigit, Reading};
 
 // The largest number that a text may hold.
 const LARGEST: u64 = 4_294_967_295;
 
 // What reading a number finds.
 pub enum Number {
-    // A number, and the place after its last digit.
+    // A number, and where it ends.
     Value(u32, usize),
     // No digit, a leading zero, or a number above the largest.
     Bad,
 }
 
-// Inner step. Writes n into the room at `at` and answers the place after it; the caller sees to it that n fits.
+// Inner step. Writes n into the room at `at` and answers where it ends; the caller sees to it that n fits.
 // The digits of n are those of n / 10 and then n % 10, so the call that writes the first ones comes first.
 pub fn write_number(room: &mut [u8], at: usize, n: u64) -> usize
     requires { ⌜ at + length (digits n) ≤ length (now room) ⌝ }
@@ -31,7 +32,7 @@ pub fn write_number(room: &mut [u8], at: usize, n: u64) -> usize
     write_digit(room, last, n % 10)
 }
 
-// Writes one digit into the room at `at` and answers the place after it.
+// Writes one digit into the room at `at` and answers where it ends.
 fn write_digit(room: &mut [u8], at: usize, digit: u64) -> usize
     requires { ⌜ (digit < 10) × (at < length (now room)) ⌝ }
     ensures { λ r. ⌜ Written (now (room .entry)) at ((48 + digit) ∷ []) r (now (room .exit)) ⌝ }
@@ -49,13 +50,13 @@ pub fn read_number(text: &[u8], at: usize) -> Number
     if !digit_at(text, at) {
         return Number::Bad;
     }
-    let mut value = wide(text[at] - b'0');
+    let mut value = rooms::wide(text[at] - b'0');
     let mut next = at + 1;
     while digit_at(text, next) {
         if value == 0 {
             return Number::Bad;
         }
-        value = value * 10 + wide(text[next] - b'0');
+        value = value * 10 + rooms::wide(text[next] - b'0');
         if value > LARGEST {
             return Number::Bad;
         }
@@ -73,11 +74,4 @@ fn digit_at(text: &[u8], at: usize) -> bool
     }
     let byte = text[at];
     b'0' <= byte && byte <= b'9'
-}
-
-// The same number in 64 bits.
-fn wide(x: u8) -> u64
-    ensures { λ r. ⌜ r ≡ x ⌝ }
-{
-    x as u64
 }

@@ -9,12 +9,12 @@ use mathlib.Core.Logic.{_↔_, Iff·trans, _⊎_, inl, inr, _≢_}
 use mathlib.Core.List.{List, [], _∷_, _++_}
 use mathlib.Core.Option.{Option, some, none}
 use lib.ListN.{length, getD, take}
-use lib.Seq.{take-at}
+use Rattle.rooms.proofs.Lists.{padded-front}
 use borrow.Author.Tests.{leb-false, lt-leb}
 use Rattle.scope.specs.declared.Run.{Run}
 use Rattle.scope.specs.declared.Source.{Source}
 use Rattle.scope.specs.declared.RunCell.{RunCell}
-use Rattle.scope.specs.Run.{ValidRun, ValidSource, cellsOf}
+use Rattle.scope.specs.Run.{ValidRun, ValidSource, ceiling, cellsOf}
 use Rattle.scope.specs.Hit.{hitsFrom}
 use Rattle.scope.specs.Refusal.{Complaint, complaint, number}
 use Rattle.scope.specs.Reply.{Said, refused, answered}
@@ -35,27 +35,40 @@ use Rattle.saved.specs.declared.Saved.{Saved}
 use Rattle.saved.specs.declared.Loaded.{Loaded}
 use Rattle.saved.specs.File.{fileOf, runOf, mapOf}
 use Rattle.saved.specs.Promise.{saysSaving, saysReading, SavingPromise, ReadingPromise}
-use Rattle.blocks.proofs.Differs.{agrees, same}
+use Rattle.scope.proofs.Differs.{agrees, same}
 use Rattle.text.specs.declared.Answer.{Answer}
 use Rattle.text.specs.declared.Answer.the-variants.{Read, Refused}
 use Rattle.text.specs.declared.Input.{Input}
-use Rattle.text.specs.Form.{line, Content}
-use Rattle.text.specs.Promise.{Reads, replyTo, handed, padded, refusal, saysText, TextPromise}
-use Rattle.text.proofs.Lines.{line-split}
+use Rattle.words.specs.Line.{line}
+use Rattle.text.specs.Form.{Content}
+use Rattle.rooms.specs.Lists.{zeros, padded}
+use Rattle.text.specs.Promise.{Reads, replyTo, handed, refusal, saysText, TextPromise}
+use Rattle.words.proofs.Lines.{line-split}
 use Rattle.text.proofs.Unique.{spells-unique}
 use Rattle.report.specs.declared.Output.{Output}
-use Rattle.report.specs.Report.{refusedWord, runReport, wholeReport, printed, reportOf, ReportPromise}
-use Rattle.demands.specs.Table.{Row, _given_, Says, Silent, BadPeriod, BadWeight, atPlace, AtFault, runTable, vectorsTable, firstHitTable, listingTable, sourcesTable, mapTable, savingTable, readingTable, textTable, SaysOfText}
+use Rattle.report.specs.Report.{refusedWord, runReport, wholeReport, printed, reportOf}
+use Rattle.report.specs.Promise.{ReportPromise}
+use Rattle.scope.specs.Table.{Row, _given_, Says, Silent, BadPeriod, runTable}
+use Rattle.saved.specs.Table.{savingTable, readingTable}
+use Rattle.sources.specs.Table.{BadWeight, atPlace, AtFault, sourcesTable}
+use Rattle.vectors.specs.Table.{vectorsTable}
+use Rattle.hits.specs.Table.{firstHitTable, listingTable}
+use Rattle.map.specs.Table.{mapTable}
+use Rattle.text.specs.Table.{textTable, SaysOfText}
 use Rattle.demands.specs.Texts.{printedBy}
-use Rattle.demands.proofs.Rendered.{says-split, silent-says, exactly, keeps}
-use Rattle.demands.proofs.Rows.{vectors-rows, first-hit-rows, listing-rows, map-rows, saving-rows, reading-rows, text-rows}
+use Rattle.scope.proofs.Rendered.{says-split, silent-says, exactly, keeps}
+use Rattle.saved.proofs.Table.{saving-renders, reading-renders}
+use Rattle.vectors.proofs.Table.{vectors-renders}
+use Rattle.hits.proofs.Table.{first-hit-renders, listing-renders}
+use Rattle.map.proofs.Table.{map-renders}
+use Rattle.text.proofs.Table.{text-renders}
 
 -- ---- vectors
 
 -- A reply of the vectors call reads "refused n" exactly when its table says n. (Nothing is lent.)
 pub vectors-refused : (p r I : ℕ) (steps : Steps) → VectorsPromise p r I steps → (n : ℕ) → (saysVectors steps ≡ refused n) ↔ Says (vectorsTable p r I) n
 unfolding VectorsPromise
-vectors-refused p r I steps h n = Iff·trans (admitted (complaint (vectorsTests p r I)) (saysVectors steps) refl h) (vectors-rows p r I .fails n)
+vectors-refused p r I steps h n = Iff·trans (admitted (complaint (vectorsTests p r I)) (saysVectors steps) refl h) (vectors-renders p r I .fails n)
   where
     admitted : (o : Option Complaint) (said : Said Values) → complaint (vectorsTests p r I) ≡ o → Admits o p r I said → (said ≡ refused n) ↔ Fails (vectorsTests p r I) n
     admitted none (answered values) i h = (λ e. absurd (let z : _≡_ {A = ℕ} 0 1 = cc in omega arith), λ f. absurd (let z : _≡_ {A = ℕ} 0 1 = cc in omega arith))
@@ -68,47 +81,47 @@ module _ (run : Run) (source : Source) (start : RunCell) where
   -- A reply of the first-hit call reads "refused n" exactly when its table says n. (Nothing is lent.)
   pub first-hit-refused : (r : FirstHit) → FirstHitPromise run source start r → (n : ℕ) → (saysFirstHit r ≡ refused n) ↔ Says (firstHitTable run source start) n
   unfolding FirstHitPromise
-  first-hit-refused r h = exactly (first-hit-rows run source start) (first (hitsFrom run source (start .0))) (saysFirstHit r) h
+  first-hit-refused r h = exactly (first-hit-renders run source start) (first (hitsFrom run source (start .0))) (saysFirstHit r) h
 
   module _ (room : List ℕ) (r : Listing) (after : List ℕ) (h : ListingPromise run source start room r after) where
     -- A reply of the listing call reads "refused n" exactly when its table says n.
     pub listing-refused : (n : ℕ) → (saysListing r ≡ refused n) ↔ Says (listingTable run source start room) n
-    listing-refused = exactly (listing-rows run source start room) (listed (hitsFrom run source (start .0)) room) (saysListing r) (h .says)
+    listing-refused = exactly (listing-renders run source start room) (listed (hitsFrom run source (start .0)) room) (saysListing r) (h .says)
 
     -- And the room then holds what it held.
     pub listing-keeps : (n : ℕ) → saysListing r ≡ refused n → after ≡ room
-    listing-keeps = keeps (listing-rows run source start room) (listed (hitsFrom run source (start .0)) room) (saysListing r) (h .says) room (written (hitsFrom run source (start .0)) room) after (h .stores)
+    listing-keeps = keeps (listing-renders run source start room) (listed (hitsFrom run source (start .0)) room) (saysListing r) (h .says) room (written (hitsFrom run source (start .0)) room) after (h .stores)
 
 -- ---- map
 
 module _ (run : Run) (periods weights map : List ℕ) (answer : Added) (after : List ℕ) (h : MapPromise run periods weights map answer after) where
   -- A reply of the map call reads "refused n" exactly when its table says n.
   pub map-refused : (n : ℕ) → (saysMap answer ≡ refused n) ↔ Says (mapTable run periods weights map) n
-  map-refused = exactly (map-rows run periods weights map) tt (saysMap answer) (h .says)
+  map-refused = exactly (map-renders run periods weights map) tt (saysMap answer) (h .says)
 
   -- And the map then holds what it held: none is "half written before the tenth source is refused".
   pub map-keeps : (n : ℕ) → saysMap answer ≡ refused n → after ≡ map
-  map-keeps = keeps (map-rows run periods weights map) tt (saysMap answer) (h .says) map (added 255 run (entriesOf periods weights) map) after (h .stores)
+  map-keeps = keeps (map-renders run periods weights map) tt (saysMap answer) (h .says) map (added ceiling run (entriesOf periods weights) map) after (h .stores)
 
 -- ---- saving and reading
 
 module _ (run : Run) (map room : List ℕ) (answer : Saved) (after : List ℕ) (h : SavingPromise run map room answer after) where
   -- A reply of the saving call reads "refused n" exactly when its table says n.
   pub saving-refused : (n : ℕ) → (saysSaving answer ≡ refused n) ↔ Says (savingTable run map room) n
-  saving-refused = exactly (saving-rows run map room) tt (saysSaving answer) (h .says)
+  saving-refused = exactly (saving-renders run map room) tt (saysSaving answer) (h .says)
 
   -- And the room for the file then holds what it held.
   pub saving-keeps : (n : ℕ) → saysSaving answer ≡ refused n → after ≡ room
-  saving-keeps = keeps (saving-rows run map room) tt (saysSaving answer) (h .says) room (fileOf run map) after (h .stores)
+  saving-keeps = keeps (saving-renders run map room) tt (saysSaving answer) (h .says) room (fileOf run map) after (h .stores)
 
 module _ (file map : List ℕ) (answer : Loaded) (after : List ℕ) (h : ReadingPromise file map answer after) where
   -- A reply of the reading call reads "refused n" exactly when its table says n.
   pub reading-refused : (n : ℕ) → (saysReading answer ≡ refused n) ↔ Says (readingTable file map) n
-  reading-refused = exactly (reading-rows file map) (runOf file) (saysReading answer) (h .says)
+  reading-refused = exactly (reading-renders file map) (runOf file) (saysReading answer) (h .says)
 
   -- And the map then holds what it held.
   pub reading-keeps : (n : ℕ) → saysReading answer ≡ refused n → after ≡ map
-  reading-keeps = keeps (reading-rows file map) (runOf file) (saysReading answer) (h .says) map (mapOf file) after (h .stores)
+  reading-keeps = keeps (reading-renders file map) (runOf file) (saysReading answer) (h .says) map (mapOf file) after (h .stores)
 
 -- ---- reading a text
 
@@ -123,7 +136,7 @@ reply-refused text none r n = (λ k. inl (cc, r), back)
 reply-refused text (some content) r n = (λ k. inr (content, r, told .0 k), back)
   where
     told : (replyTo (some content) ≡ refused n) ↔ Says (textTable content) n
-    told = exactly (text-rows content) (content .run) (replyTo (some content)) refl n
+    told = exactly (text-renders content) (content .run) (replyTo (some content)) refl n
 
     back : SaysOfText text n → replyTo (some content) ≡ refused n
     back (inl k) = absurd (k .1 content r)
@@ -137,18 +150,18 @@ module _ (text : List ℕ) (input : Input) (h : TextPromise text input) where
 
   -- "A refused call answers with the number alone": no source goes with it.
   pub text-refused-alone : (n : ℕ) → saysText (input .answer) ≡ refused n → input ≡ refusal n
-  unfolding padded periodsOf weightsOf
+  unfolding padded zeros periodsOf weightsOf
   text-refused-alone n k =
       let none-handed = go (h .content) (h .says) in
       let answers = refuses (input .answer) k in
       let counts = h .counts ∙ ap length none-handed in
-      let periods = h .periods ∙ ap (λ es. padded (periodsOf es)) none-handed in
-      let weights = h .weights ∙ ap (λ es. padded (weightsOf es)) none-handed in
+      let periods = h .periods ∙ ap (λ es. padded 64 (periodsOf es)) none-handed in
+      let weights = h .weights ∙ ap (λ es. padded 64 (weightsOf es)) none-handed in
       λ i. record { answer = answers i; count = counts i; periods = periods i; weights = weights i }
     where
       go : (o : Option Content) → saysText (input .answer) ≡ replyTo o → handed o ≡ []
       go none e = refl
-      go (some content) e = keeps (text-rows content) (content .run) (saysText (input .answer)) e [] (content .entries) (handed (some content)) refl n k
+      go (some content) e = keeps (text-renders content) (content .run) (saysText (input .answer)) e [] (content .entries) (handed (some content)) refl n k
 
       refuses : (answer : Answer) → saysText answer ≡ refused n → answer ≡ Refused n
       refuses (Read run) e = cc
@@ -172,7 +185,7 @@ pub report-refused : (text : List ℕ) (output : Output) → ReportPromise text 
 unfolding reportOf
 report-refused text output h n =
     let bytes = reportOf (h .content) in
-    let is : printedBy output ≡ bytes = ap (take (output .length)) (h .says .begins) ∙ take-at bytes _ (output .length) (sym (h .says .counts)) in
+    let is : printedBy output ≡ bytes = ap (take (output .length)) (h .says .begins) ∙ padded-front 921600 (output .length) bytes (sym (h .says .counts)) in
     rw is (Iff·trans (printed-refused (replyTo (h .content)) (handed (h .content)) n) (reply-refused text (h .content) (h .reads) n))
 
 -- ---- input that is not bad
@@ -183,22 +196,22 @@ module _ (run : Run) (fits : run .interval ≤ 4294967295) where
   pub first-hit-silent : (source : Source) (start : RunCell) → Silent (firstHitTable run source start) ↔ (ValidRun run × ValidSource source × (start .0 < cellsOf run))
   unfolding firstHitTests
   first-hit-silent source start =
-      let rows = first-hit-rows run source start in (
+      let rows = first-hit-renders run source start in (
         λ s. let p = rows .passes .1 s in (valid-run (passes-first (passes-first p)) fits, valid-source (passes-then (passes-first p)), leb-false _ _ (passes-when (passes-then p))),
         λ h. rows .passes .0 (both (both (valid-run-passes (h .0)) (valid-source-passes (h .1))) (sound (lt-leb _ _ (h .2)))),
       )
 
   -- That of the map call exactly if the run and all sources are, and the lists and the map have the right lengths.
-  pub map-silent : (periods weights map : List ℕ) → Silent (mapTable run periods weights map) ↔ (ValidRun run × (length periods ≡ length weights) × ValidEntries 255 (entriesOf periods weights) × (length map ≡ cellsOf run))
+  pub map-silent : (periods weights map : List ℕ) → Silent (mapTable run periods weights map) ↔ (ValidRun run × (length periods ≡ length weights) × ValidEntries ceiling (entriesOf periods weights) × (length map ≡ cellsOf run))
   unfolding mapTests
   map-silent periods weights map =
       let entries = entriesOf periods weights in
-      let rows = map-rows run periods weights map in (
+      let rows = map-renders run periods weights map in (
         λ s.
             let p = rows .passes .1 s in
             let lists = passes-first p in
-            (valid-run (passes-first (passes-first lists)) fits, same _ _ (passes-then (passes-first lists)), valid-entries 255 1 entries (passes-then lists), same _ _ (passes-then p)),
-        λ h. rows .passes .0 (both (both (both (valid-run-passes (h .0)) (sound (agrees refl refl (h .1)))) (valid-entries-pass 255 1 entries (h .2))) (sound (agrees refl refl (h .3)))),
+            (valid-run (passes-first (passes-first lists)) fits, same _ _ (passes-then (passes-first lists)), valid-entries ceiling 1 entries (passes-then lists), same _ _ (passes-then p)),
+        λ h. rows .passes .0 (both (both (both (valid-run-passes (h .0)) (sound (agrees refl refl (h .1)))) (valid-entries-pass ceiling 1 entries (h .2))) (sound (agrees refl refl (h .3)))),
       )
 
 -- ---- a list of sources at fault

@@ -37,9 +37,18 @@ use Rattle.exports.specs.declared.RunReply.{RunReply}
 use Rattle.exports.specs.declared.TextReply.{TextReply}
 use Rattle.exports.specs.Promise.{Exported}
 use Rattle.exports.specs.Replies.{tellSteps, tellFirst, tellListing, tellAdded, tellSaved, tellLoaded, tellAnswer, tellText}
-use Rattle.demands.specs.Table.{Says, vectorsTable, firstHitTable, listingTable, mapTable, savingTable, readingTable, SaysOfText, Tells}
-use Rattle.demands.proofs.Rendered.{said-some}
-use Rattle.demands.proofs.Rows.{vectors-rows, first-hit-rows, listing-rows, map-rows, saving-rows, reading-rows, text-rows}
+use Rattle.scope.specs.Table.{Says, Tells}
+use Rattle.saved.specs.Table.{savingTable, readingTable}
+use Rattle.vectors.specs.Table.{vectorsTable}
+use Rattle.hits.specs.Table.{firstHitTable, listingTable}
+use Rattle.map.specs.Table.{mapTable}
+use Rattle.text.specs.Table.{SaysOfText}
+use Rattle.scope.proofs.Rendered.{said-some}
+use Rattle.vectors.proofs.Table.{vectors-renders}
+use Rattle.hits.proofs.Table.{first-hit-renders, listing-renders}
+use Rattle.map.proofs.Table.{map-renders}
+use Rattle.text.proofs.Table.{text-renders}
+use Rattle.saved.proofs.Table.{saving-renders, reading-renders}
 use Rattle.demands.proofs.Demand1.{vectors-refused, first-hit-refused, listing-refused, listing-keeps, map-refused, map-keeps, saving-refused, saving-keeps, reading-refused, reading-keeps, text-refused, text-refused-alone}
 
 -- ---- every C function
@@ -145,7 +154,7 @@ text-field input = answer-field (input .answer)
 -- `zenithgong_step_vectors`. (Nothing is lent.)
 module _ (p r I : ℕ) {a : StepsReply} (e : Exported (VectorsPromise p r I) tellSteps a) where
   pub exported-vectors-refused : Tells (Says (vectorsTable p r I)) (a .refusal)
-  exported-vectors-refused = by-table e (λ a. a .refusal) saysVectors steps-field (vectors-refused p r I) (said-some (vectors-rows p r I))
+  exported-vectors-refused = by-table e (λ a. a .refusal) saysVectors steps-field (vectors-refused p r I) (said-some (vectors-renders p r I))
 
   pub exported-vectors-alone : a .refusal ≢ 0 → a ≡ tellSteps (Refused·steps (a .refusal))
   exported-vectors-alone = alone e (λ a. a .refusal) saysVectors steps-field Refused·steps (λ r h. steps-only r)
@@ -154,7 +163,7 @@ module _ (run : Run) (source : Source) (start : RunCell) where
   -- `zenithgong_first_hit`. (Nothing is lent.)
   module _ {a : FirstHitReply} (e : Exported (FirstHitPromise run source start) tellFirst a) where
     pub exported-first-hit-refused : Tells (Says (firstHitTable run source start)) (a .refusal)
-    exported-first-hit-refused = by-table e (λ a. a .refusal) saysFirstHit first-field (first-hit-refused run source start) (said-some (first-hit-rows run source start))
+    exported-first-hit-refused = by-table e (λ a. a .refusal) saysFirstHit first-field (first-hit-refused run source start) (said-some (first-hit-renders run source start))
 
     pub exported-first-hit-alone : a .refusal ≢ 0 → a ≡ tellFirst (Refused·first (a .refusal))
     exported-first-hit-alone = alone e (λ a. a .refusal) saysFirstHit first-field Refused·first (λ r h. first-only r)
@@ -162,7 +171,7 @@ module _ (run : Run) (source : Source) (start : RunCell) where
   -- `zenithgong_list_hits`
   module _ (room : List ℕ) {after : List ℕ} {a : ListingReply} (e : Exported (λ r. ListingPromise run source start room r after) tellListing a) where
     pub exported-listing-refused : Tells (Says (listingTable run source start room)) (a .refusal)
-    exported-listing-refused = by-table e (λ a. a .refusal) saysListing listing-field (λ r h. listing-refused run source start room r after h) (said-some (listing-rows run source start room))
+    exported-listing-refused = by-table e (λ a. a .refusal) saysListing listing-field (λ r h. listing-refused run source start room r after h) (said-some (listing-renders run source start room))
 
     pub exported-listing-keeps : a .refusal ≢ 0 → (a ≡ tellListing (Refused·listing (a .refusal))) × (after ≡ room)
     exported-listing-keeps some = (
@@ -173,7 +182,7 @@ module _ (run : Run) (source : Source) (start : RunCell) where
 -- `zenithgong_add_to_map`, whose answer is the refusal
 module _ (run : Run) (periods weights map : List ℕ) {after : List ℕ} {a : ℕ} (e : Exported (λ r. MapPromise run periods weights map r after) tellAdded a) where
   pub exported-map-refused : Tells (Says (mapTable run periods weights map)) a
-  exported-map-refused = by-table e (λ n. n) saysMap added-field (λ r h. map-refused run periods weights map r after h) (said-some (map-rows run periods weights map))
+  exported-map-refused = by-table e (λ n. n) saysMap added-field (λ r h. map-refused run periods weights map r after h) (said-some (map-renders run periods weights map))
 
   pub exported-map-keeps : a ≢ 0 → after ≡ map
   exported-map-keeps = kept e (λ n. n) saysMap added-field (λ r h. map-keeps run periods weights map r after h)
@@ -181,7 +190,7 @@ module _ (run : Run) (periods weights map : List ℕ) {after : List ℕ} {a : �
 -- `zenithgong_save`, whose answer is the refusal
 module _ (run : Run) (map room : List ℕ) {after : List ℕ} {a : ℕ} (e : Exported (λ r. SavingPromise run map room r after) tellSaved a) where
   pub exported-saving-refused : Tells (Says (savingTable run map room)) a
-  exported-saving-refused = by-table e (λ n. n) saysSaving saved-field (λ r h. saving-refused run map room r after h) (said-some (saving-rows run map room))
+  exported-saving-refused = by-table e (λ n. n) saysSaving saved-field (λ r h. saving-refused run map room r after h) (said-some (saving-renders run map room))
 
   pub exported-saving-keeps : a ≢ 0 → after ≡ room
   exported-saving-keeps = kept e (λ n. n) saysSaving saved-field (λ r h. saving-keeps run map room r after h)
@@ -189,7 +198,7 @@ module _ (run : Run) (map room : List ℕ) {after : List ℕ} {a : ℕ} (e : Exp
 -- `zenithgong_read`
 module _ (file map : List ℕ) {after : List ℕ} {a : RunReply} (e : Exported (λ r. ReadingPromise file map r after) tellLoaded a) where
   pub exported-reading-refused : Tells (Says (readingTable file map)) (a .refusal)
-  exported-reading-refused = by-table e (λ a. a .refusal) saysReading loaded-field (λ r h. reading-refused file map r after h) (said-some (reading-rows file map))
+  exported-reading-refused = by-table e (λ a. a .refusal) saysReading loaded-field (λ r h. reading-refused file map r after h) (said-some (reading-renders file map))
 
   pub exported-reading-keeps : a .refusal ≢ 0 → (a ≡ tellLoaded (Refused·loaded (a .refusal))) × (after ≡ map)
   exported-reading-keeps some = (
@@ -201,7 +210,7 @@ module _ (file map : List ℕ) {after : List ℕ} {a : RunReply} (e : Exported (
 module _ (text : List ℕ) {a : TextReply} (e : Exported (TextPromise text) tellText a) where
   text-some : (n : ℕ) → SaysOfText text n → 1 ≤ n
   text-some n (inl h) = omega arith
-  text-some n (inr h) = said-some (text-rows (h .0)) n (h .2)
+  text-some n (inr h) = said-some (text-renders (h .0)) n (h .2)
 
   pub exported-text-refused : Tells (SaysOfText text) (a .run .refusal)
   exported-text-refused = by-table e (λ a. a .run .refusal) (λ input. saysText (input .answer)) text-field (text-refused text) text-some

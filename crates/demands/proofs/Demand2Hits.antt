@@ -21,15 +21,16 @@ use Rattle.hits.specs.declared.FirstHit.{FirstHit}
 use Rattle.hits.specs.Promise.{first, saysFirstHit, FirstHitPromise}
 use Rattle.hits.specs.Proposition.{InWindow, NextHit, Cases}
 use Rattle.hits.proofs.Proposition as Proposition
-use Rattle.demands.specs.Table.{Silent, firstHitTable}
+use Rattle.scope.specs.Table.{Silent}
+use Rattle.hits.specs.Table.{firstHitTable}
 use Rattle.demands.specs.FirstHit.{HitsCell, IsFirstHit, NoHitFrom, NextOnLine}
-use Rattle.demands.proofs.Rows.{first-hit-rows}
+use Rattle.hits.proofs.Table.{first-hit-renders}
 use Rattle.demands.proofs.FirstHits.{first-is, none-is}
 
 module _ (run : Run) (source : Source) (start : RunCell) (r : FirstHit) (fine : Silent (firstHitTable run source start)) (h : FirstHitPromise run source start r) where
   reads : saysFirstHit r ≡ answered (first (hitsFrom run source (start .0)))
   unfolding FirstHitPromise
-  reads = h ∙ rw (first-hit-rows run source start .passes .1 fine .is)
+  reads = h ∙ rw (first-hit-renders run source start .passes .1 fine .is)
 
   -- "the program gives it": where the table has no complaint, the reply is the cell y exactly if y is the first hit from the
   -- start on.

@@ -25,8 +25,7 @@ use Rattle.scope.proofs.Limits.{valid-window-passes}
 use Rattle.scope.proofs.Hits.{hit-hits, one-hit-on-line}
 use Rattle.vectors.specs.declared.Vector.{Vector}
 use Rattle.vectors.specs.declared.Steps.{Steps}
-use Rattle.vectors.specs.InnerSequence.{vector}
-use Rattle.vectors.specs.Vectors.{InLattice, IsPair, APair, Whole, Sum, IsSingle, Values, pair, single}
+use Rattle.vectors.specs.Vectors.{vector, InLattice, IsPair, APair, Whole, Sum, IsSingle, Values, pair, single}
 use Rattle.vectors.specs.Promise.{vectorsTests, saysVectors, Admits, VectorsPromise}
 use Rattle.vectors.proofs.Unique as Theorems
 use Rattle.vectors.proofs.Proposition as Proposition

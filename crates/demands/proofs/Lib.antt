@@ -1,7 +1,5 @@
 -- The demands of document 00, over the promises alone: the files Demand*, NoSecondReply, SomeReply and Texts have the
 -- statements, the others what they rest on.
-pub mod Rendered
-pub mod Rows
 pub mod Demand1
 pub mod Demand1Exports
 pub mod NoSecondReply

@@ -21,12 +21,12 @@ use Rattle.map.proofs.Unique as Map
 use Rattle.saved.specs.declared.Saved.{Saved}
 use Rattle.saved.specs.declared.Loaded.{Loaded}
 use Rattle.saved.specs.Promise.{SavingPromise, ReadingPromise}
-use Rattle.saved.proofs.RoundTrips as Saved
+use Rattle.saved.proofs.Unique as Saved
 use Rattle.text.specs.declared.Input.{Input}
 use Rattle.text.specs.Promise.{TextPromise}
 use Rattle.text.proofs.Unique as Text
 use Rattle.report.specs.declared.Output.{Output}
-use Rattle.report.specs.Report.{ReportPromise}
+use Rattle.report.specs.Promise.{ReportPromise}
 use Rattle.report.proofs.Unique as Report
 
 -- The vectors call: one reply.

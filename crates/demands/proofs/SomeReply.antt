@@ -3,12 +3,12 @@
 use Prim.Native.Nat.{ℕ}
 use mathlib.Core.Path.{_≡_, refl}
 use mathlib.Core.Logic.{_⊎_, inl, inr}
-use mathlib.Core.List.{List, _++_}
+use mathlib.Core.List.{List}
 use mathlib.Core.Option.{Option, some, none}
-use lib.ListN.{length, drop}
 use Rattle.scope.specs.declared.Run.{Run}
 use Rattle.scope.specs.declared.Source.{Source}
 use Rattle.scope.specs.declared.RunCell.{RunCell}
+use Rattle.scope.specs.Run.{ceiling}
 use Rattle.scope.specs.Hit.{hitsFrom}
 use Rattle.scope.specs.Refusal.{complaint}
 use Rattle.scope.specs.Reply.{Said, refused, answered, reply, stored}
@@ -26,21 +26,16 @@ use Rattle.map.specs.declared.Added.the-variants.{Done as Done·map, Refused as
 use Rattle.map.specs.Promise.{mapTests, MapPromise}
 use Rattle.map.proofs.Unique.{refused-call, granted-call}
 use Rattle.saved.specs.declared.Saved.{Saved}
-use Rattle.saved.specs.declared.Saved.the-variants.{Done as Done·saved, Refused as Refused·saved}
 use Rattle.saved.specs.declared.Loaded.{Loaded}
-use Rattle.saved.specs.declared.Loaded.the-variants.{Of, Refused as Refused·loaded}
-use Rattle.saved.specs.File.{savingTests, readingTests}
 use Rattle.saved.specs.Promise.{SavingPromise, ReadingPromise}
-use Rattle.saved.proofs.Promises.{refuse-saving, grant-saving, refuse-reading, grant-reading}
-use Rattle.sources.specs.Lists.{periodsOf, weightsOf}
-use Rattle.text.specs.declared.Answer.{Answer}
-use Rattle.text.specs.declared.Answer.the-variants.{Read, Refused as Refused·text}
+use Rattle.saved.proofs.Unique as Saved
 use Rattle.text.specs.declared.Input.{Input}
-use Rattle.text.specs.Promise.{replyTo, handed, padded, saysText, TextPromise}
-use Rattle.text.proofs.Says.{reads-exists}
+use Rattle.text.specs.Promise.{TextPromise}
+use Rattle.text.proofs.Unique as Text
 use Rattle.report.specs.declared.Output.{Output}
-use Rattle.report.specs.Report.{reportOf, blank, ReportPromise}
-use Rattle.demands.proofs.Rendered.{judged}
+use Rattle.report.specs.Promise.{ReportPromise}
+use Rattle.report.proofs.Unique as Report
+use Rattle.scope.proofs.Rendered.{judged}
 
 -- Some reply fits the vectors call.
 pub vectors-exists : (p r I : ℕ) → (steps : Steps) × VectorsPromise p r I steps
@@ -93,49 +88,26 @@ listing-exists run source start room =
 
 -- Some reply and some map after it fit the map call.
 pub map-exists : (run : Run) (periods weights map : List ℕ) → (answer : Added) × (after : List ℕ) × MapPromise run periods weights map answer after
-map-exists run periods weights map = go (judged (mapTests 255 run periods weights map))
+map-exists run periods weights map = go (judged (mapTests ceiling run periods weights map))
   where
-    go : Passes (mapTests 255 run periods weights map) ⊎ ((n : ℕ) × Fails (mapTests 255 run periods weights map) n) → (answer : Added) × (after : List ℕ) × MapPromise run periods weights map answer after
+    go : Passes (mapTests ceiling run periods weights map) ⊎ ((n : ℕ) × Fails (mapTests ceiling run periods weights map) n) → (answer : Added) × (after : List ℕ) × MapPromise run periods weights map answer after
     go (inl p) = (Done·map, _, granted-call p refl)
     go (inr f) = (Refused·map (f .0), map, refused-call (f .1))
 
 -- Some reply and some file after it fit saving.
 pub saving-exists : (run : Run) (map room : List ℕ) → (answer : Saved) × (after : List ℕ) × SavingPromise run map room answer after
-saving-exists run map room = go (judged (savingTests run map room))
-  where
-    go : Passes (savingTests run map room) ⊎ ((n : ℕ) × Fails (savingTests run map room) n) → (answer : Saved) × (after : List ℕ) × SavingPromise run map room answer after
-    go (inl p) = (Done·saved, _, grant-saving p refl)
-    go (inr f) = (Refused·saved (f .0), room, refuse-saving (f .1))
+saving-exists = Saved.saving-exists
 
 -- Some reply and some map after it fit reading.
 pub reading-exists : (file map : List ℕ) → (answer : Loaded) × (after : List ℕ) × ReadingPromise file map answer after
-reading-exists file map = go (judged (readingTests file map))
-  where
-    go : Passes (readingTests file map) ⊎ ((n : ℕ) × Fails (readingTests file map) n) → (answer : Loaded) × (after : List ℕ) × ReadingPromise file map answer after
-    go (inl p) = (Of _, _, grant-reading p refl refl)
-    go (inr f) = (Refused·loaded (f .0), map, refuse-reading (f .1))
+reading-exists = Saved.reading-exists
 
--- ---- text and report: every text says something, or it has not the form
-
-abbrev answer : Said Run → Answer
-answer (answered run) = Read run
-answer (refused n) = Refused·text n
-
-says-answer : (s : Said Run) → saysText (answer s) ≡ s
-says-answer (answered run) = refl
-says-answer (refused n) = refl
+-- ---- text and report
 
 -- Some reply fits every text.
 pub text-exists : (text : List ℕ) → (input : Input) × TextPromise text input
-text-exists text =
-    let (o, r) = reads-exists text in (
-      record { answer = answer (replyTo o); count = length (handed o); periods = padded (periodsOf (handed o)); weights = padded (weightsOf (handed o)) },
-      record { content = o; reads = r; says = says-answer (replyTo o); counts = refl; periods = refl; weights = refl },
-    )
+text-exists = Text.text-exists
 
 -- And some output.
 pub report-exists : (text : List ℕ) → (output : Output) × ReportPromise text output
-report-exists text =
-    let (o, r) = reads-exists text in
-    let bytes = reportOf o in
-    (record { length = length bytes; bytes = bytes ++ drop (length bytes) blank }, record { content = o; reads = r; says = record { counts = refl; begins = refl } })
+report-exists = Report.report-exists

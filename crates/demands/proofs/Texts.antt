@@ -12,33 +12,44 @@ use lib.ListN.{length, take, length-take}
 use lib.Seq.{take-all}
 use borrow.Author.Tests.{ltb-false, le-ltb}
 use Rattle.scope.specs.declared.Run.{Run}
-use Rattle.scope.specs.Run.{ValidRun, cellsOf}
+use Rattle.scope.specs.Run.{ValidRun, ceiling, cellsOf}
 use Rattle.sources.specs.Entry.{Entry}
 use Rattle.scope.proofs.Judged.{Passes, sound, both, grant-reply, grant-stored}
 use Rattle.scope.proofs.Limits.{passes-when, passes-first, passes-then, valid-run, valid-run-passes}
-use Rattle.sources.specs.Lists.{ValidEntries}
+use Rattle.sources.specs.Lists.{periodsOf, weightsOf, ValidEntries}
 use Rattle.sources.proofs.Entries.{valid-entries, valid-entries-pass}
+use Rattle.rooms.specs.Lists.{UpTo}
+use Rattle.rooms.proofs.Lists.{up-to, up-to-none, up-to-cons}
+use Rattle.decimal.specs.Digits.{largest}
 use Rattle.text.specs.declared.Answer.the-variants.{Read}
 use Rattle.text.specs.declared.Input.{Input}
-use Rattle.text.specs.Form.{Content, Spells, Small, AllSmall, runNumbers, textOf}
+use Rattle.text.specs.Form.{Content, Spells, runNumbers, textOf}
 use Rattle.text.specs.Promise.{Reads, textTests, TextPromise, sourcesOf}
 use Rattle.text.proofs.Says as Says
 use Rattle.text.proofs.Unique as Unique
 use Rattle.report.specs.declared.Output.{Output}
-use Rattle.report.specs.Report.{wholeReport, printed, reportOf, ReportPromise}
+use Rattle.report.specs.Report.{wholeReport, printed, reportOf}
+use Rattle.report.specs.Promise.{ReportPromise}
 use Rattle.report.proofs.Unique.{output-prints}
 use Rattle.demands.specs.Texts.{Listable, printedBy}
 
 -- what is within the limits has small numbers
-run-small : {run : Run} → ValidRun run → Small (runNumbers run)
-run-small v = (omega arith, (omega arith, (omega arith, (omega arith, tt))))
+run-small : {run : Run} → ValidRun run → UpTo largest (runNumbers run)
+run-small {run} v = up-to (runNumbers run) (omega arith, (omega arith, (omega arith, (omega arith, tt))))
 
-all-small : (entries : List Entry) → ValidEntries 255 entries → AllSmall entries
-all-small [] w = tt
-all-small (entry ∷ entries) w =
+periods-small : (entries : List Entry) → ValidEntries ceiling entries → UpTo largest (periodsOf entries)
+unfolding periodsOf
+periods-small [] w = up-to-none largest
+periods-small (e ∷ entries) w =
+    let source = w .0 .source in
+    up-to-cons (e .source .period) (periodsOf entries) (omega arith) (periods-small entries (w .1))
+
+weights-small : (entries : List Entry) → ValidEntries ceiling entries → UpTo largest (weightsOf entries)
+unfolding weightsOf
+weights-small [] w = up-to-none largest
+weights-small (e ∷ entries) w =
     let own = w .0 in
-    let source = own .source in
-    ((omega arith, (omega arith, tt)), all-small entries (w .1))
+    up-to-cons (e .weight) (weightsOf entries) (omega arith) (weights-small entries (w .1))
 
 -- the tests of a text that has the form, and the limits
 within : (text : List ℕ) (content : Content) → (Spells text content × Passes (textTests content)) ↔ ((text ≡ textOf content) × (length text ≤ 4096) × Listable content)
@@ -46,22 +57,22 @@ unfolding textTests
 within text content = (
   λ h.
       let tests = h .1 in
-      let interval = h .0 .runSmall .1 .0 in (
+      let interval = h .0 .runSmall 1 in (
         h .0 .spelled,
         h .0 .short,
         record {
           valid = valid-run (passes-first (passes-first (passes-first tests))) (omega arith);
-          within = valid-entries 255 1 (content .entries) (passes-then tests);
+          within = valid-entries ceiling 1 (content .entries) (passes-then tests);
           sources = ltb-false 64 (length (content .entries)) (passes-when (passes-then (passes-first (passes-first tests))));
           cells = ltb-false 65536 (cellsOf (content .run)) (passes-when (passes-then (passes-first tests)));
         },
       ),
   λ h.
       let limits = h .2 in (
-        record { spelled = h .0; runSmall = run-small (limits .valid); allSmall = all-small (content .entries) (limits .within); short = h .1 },
+        record { spelled = h .0; runSmall = run-small (limits .valid); periodsSmall = periods-small (content .entries) (limits .within); weightsSmall = weights-small (content .entries) (limits .within); short = h .1 },
         both
             (both (both (valid-run-passes (limits .valid)) (sound (le-ltb _ _ (limits .sources)))) (sound (le-ltb _ _ (limits .cells))))
-            (valid-entries-pass 255 1 (content .entries) (limits .within)),
+            (valid-entries-pass ceiling 1 (content .entries) (limits .within)),
       ),
 )
 

@@ -9,7 +9,7 @@ use lib.ListN.{length, getD, set}
 use Rattle.scope.specs.declared.Run.{Run}
 use Rattle.scope.specs.declared.RunCell.{RunCell}
 use Rattle.scope.specs.declared.BlockCell.{BlockCell}
-use Rattle.scope.specs.Run.{ValidRun, UpTo, cellsOf, toRun}
+use Rattle.scope.specs.Run.{ValidRun, ceiling, UpTo, cellsOf, toRun}
 use Rattle.sources.specs.Entry.{Entry}
 use Rattle.map.specs.declared.Added.{Added}
 use Rattle.map.specs.declared.Added.the-variants.{Done}
@@ -64,9 +64,9 @@ NoneRefused (call ∷ calls) = (call .answer ≡ Done) × NoneRefused calls
 pub record History (run : Run) (blocks : List Run) (sources : List Entry) (maps : List (List ℕ)) (calls : List Call) : Type 0 where
   pub valid : ValidRun run
   pub cut : Cut run blocks
-  pub within : ValidEntries 255 sources
+  pub within : ValidEntries ceiling sources
   pub sized : Maps blocks maps
-  pub bytes : (k : ℕ) → UpTo 255 (getD maps k [])
+  pub bytes : (k : ℕ) → UpTo ceiling (getD maps k [])
   pub keep : Keep run blocks maps calls
   pub once : (k : ℕ) → k < length blocks → List·Permᴰ (addedTo k calls) sources
 
@@ -75,6 +75,6 @@ pub record History (run : Run) (blocks : List Run) (sources : List Entry) (maps 
 pub record Adds (run : Run) (blocks : List Run) (sources : List Entry) (maps : List (List ℕ)) (calls : List Call) : Type 0 where
   pub none-refused : NoneRefused calls
   pub cells : length (together maps) ≡ cellsOf run
-  pub whole : together (leave maps calls) ≡ added 255 run sources (together maps)
-  pub every-cell : (y : RunCell) → y .0 < cellsOf run → getD (together (leave maps calls)) (y .0) 0 ≡ capped 255 (getD (together maps) (y .0) 0 + weightAt run sources (y .0))
-  pub every-block : (k : ℕ) → k < length blocks → (x : BlockCell) → x .0 < cellsOf (getD blocks k run) → getD (getD (leave maps calls) k []) (x .0) 0 ≡ capped 255 (getD (getD maps k []) (x .0) 0 + weightAt run sources (toRun run (getD blocks k run) x .0))
+  pub whole : together (leave maps calls) ≡ added ceiling run sources (together maps)
+  pub every-cell : (y : RunCell) → y .0 < cellsOf run → getD (together (leave maps calls)) (y .0) 0 ≡ capped ceiling (getD (together maps) (y .0) 0 + weightAt run sources (y .0))
+  pub every-block : (k : ℕ) → k < length blocks → (x : BlockCell) → x .0 < cellsOf (getD blocks k run) → getD (getD (leave maps calls) k []) (x .0) 0 ≡ capped ceiling (getD (getD maps k []) (x .0) 0 + weightAt run sources (toRun run (getD blocks k run) x .0))

@@ -1,4 +1,3 @@
-pub mod Table
 pub mod StepVectors
 pub mod FirstHit
 pub mod Cut

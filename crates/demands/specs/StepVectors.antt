@@ -4,8 +4,7 @@ use Prim.Native.Nat.{ℕ, _/_, _%_, _≤_, _<_}
 use mathlib.Core.Path.{_≡_}
 use lib.IntN.{pos}
 use Rattle.scope.specs.Reply.{Said, refused, answered}
-use Rattle.vectors.specs.InnerSequence.{vector}
-use Rattle.vectors.specs.Vectors.{IsPair, Values, pair, single}
+use Rattle.vectors.specs.Vectors.{vector, IsPair, Values, pair, single}
 
 -- "each period, remainder below it and window no wider than it", within 01's ranges.
 pub record Asked (p r I : ℕ) : Type 0 where

@@ -2,7 +2,7 @@
 use Prim.Native.Nat.{ℕ, _≤_}
 use mathlib.Core.List.{List}
 use lib.ListN.{length, take}
-use Rattle.scope.specs.Run.{ValidRun, cellsOf}
+use Rattle.scope.specs.Run.{ValidRun, ceiling, cellsOf}
 use Rattle.sources.specs.Lists.{ValidEntries}
 use Rattle.text.specs.Form.{Content}
 use Rattle.report.specs.declared.Output.{Output}
@@ -11,7 +11,7 @@ use Rattle.report.specs.declared.Output.{Output}
 -- 65,536 cells" kept.
 pub record Listable (content : Content) : Type 0 where
   pub valid : ValidRun (content .run)
-  pub within : ValidEntries 255 (content .entries)
+  pub within : ValidEntries ceiling (content .entries)
   pub sources : length (content .entries) ≤ 64
   pub cells : cellsOf (content .run) ≤ 65536
 

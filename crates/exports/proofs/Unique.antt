@@ -13,7 +13,7 @@ use Rattle.hits.proofs.Unique.{first-hit-unique, listing-unique}
 use Rattle.map.specs.Promise.{MapPromise}
 use Rattle.map.proofs.Unique.{map-unique}
 use Rattle.saved.specs.Promise.{SavingPromise, ReadingPromise}
-use Rattle.saved.proofs.RoundTrips.{saving-unique, reading-unique}
+use Rattle.saved.proofs.Unique.{saving-unique, reading-unique}
 use Rattle.text.specs.Promise.{TextPromise}
 use Rattle.text.proofs.Unique.{text-unique}
 use Rattle.exports.specs.declared.StepsReply.{StepsReply}

@@ -1,7 +1,6 @@
 -- The numbers that tell each operation's reply. A refusal has its number and zeros beside it; any other reply has 0 for the refusal.
 use Prim.Native.Nat.{ℕ}
 use lib.IntN.{pos}
-use Rattle.scope.specs.declared.Run.{Run}
 use Rattle.scope.specs.declared.Source.{Source}
 use Rattle.scope.specs.declared.RunCell.{RunCell}
 use Rattle.vectors.specs.declared.Steps.{Steps}
@@ -24,10 +23,6 @@ use Rattle.exports.specs.declared.FirstHitReply.{FirstHitReply}
 use Rattle.exports.specs.declared.ListingReply.{ListingReply}
 use Rattle.exports.specs.declared.RunReply.{RunReply}
 use Rattle.exports.specs.declared.TextReply.{TextReply}
-
--- A run of its four numbers.
-abbrev pub runWith : ℕ → ℕ → ℕ → ℕ → Run
-runWith window interval first last = record { window = window; interval = interval; first = first; last = last }
 
 -- The source with a period.
 abbrev pub sourceWith : ℕ → Source

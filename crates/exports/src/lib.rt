@@ -13,13 +13,14 @@ use text::Answer;
 use text::Input;
 use vectors::Steps;
 ghost use mathlib.Core.Path.{_≡_};
+ghost use Rattle.scope.specs.Run.{runWith};
 ghost use Rattle.vectors.specs.Promise.{VectorsPromise};
 ghost use Rattle.hits.specs.Promise.{FirstHitPromise, ListingPromise};
 ghost use Rattle.map.specs.Promise.{MapPromise};
 ghost use Rattle.saved.specs.Promise.{SavingPromise, ReadingPromise};
 ghost use Rattle.text.specs.Promise.{TextPromise};
 ghost use Rattle.exports.specs.Promise.{Exported};
-ghost use Rattle.exports.specs.Replies.{runWith, sourceWith, cellWith, tellSteps, tellFirst, tellListing, tellAdded, tellSaved, tellLoaded, tellAnswer, tellText};
+ghost use Rattle.exports.specs.Replies.{sourceWith, cellWith, tellSteps, tellFirst, tellListing, tellAdded, tellSaved, tellLoaded, tellAnswer, tellText};
 
 // The step vectors.
 #[repr(C)]

@@ -1,6 +1,6 @@
 -- A row holds if its figure is an outcome of the promise, since no second one fits; of the saved map: if the row's length is
 -- that of the run's file, and the file has it and these checks. Assumes nothing.
-use Prim.Native.Nat.{ℕ, _*_, _%_, _≤_, min}
+use Prim.Native.Nat.{ℕ, _+_, _*_, _%_, _≤_, min}
 use mathlib.Core.Path.{_≡_, refl, sym, ap, subst, subst₂, _∙_}
 use mathlib.Core.Bool.{true, false, not}
 use mathlib.Core.List.{List, [], _∷_, map}
@@ -16,22 +16,21 @@ use lib.Seq.{take-all}
 use lib.Signed.{leZ, ltZ}
 use Rattle.lattice.specs.Gcd.{IsGcd}
 use Rattle.scope.specs.declared.Run.{Run}
-use Rattle.scope.specs.Run.{cellsOf, cellOf}
+use Rattle.scope.specs.Run.{runWith, cellsOf, cellOf}
 use Rattle.scope.specs.Hit.{hitsFrom}
 use Rattle.scope.specs.Refusal.{Room, _when_, _andThen_, complaint, number, windowTests, lineTests, runTests, periodTests, sourceTests}
 use Rattle.scope.specs.Reply.{Said, refused, answered, reply, stored}
 use Rattle.scope.proofs.Judged.{Passes, broken, sound, then, both, grant-reply, grant-stored, said-answered}
 use Rattle.scope.proofs.Limits.{passes-then}
 use Rattle.scope.proofs.Hits.{hits-remainder}
-use Rattle.vectors.specs.InnerSequence.{vector}
-use Rattle.vectors.specs.Vectors.{InLattice, IsPair, Values}
+use Rattle.vectors.specs.Vectors.{vector, InLattice, IsPair, Values}
 use Rattle.vectors.specs.Promise.{vectorsTests, saysVectors, Admits, VectorsPromise}
 use Rattle.vectors.proofs.Unique.{said-unique}
 use Rattle.saved.specs.declared.Saved.{Saved}
 use Rattle.saved.specs.declared.Saved.the-variants.{Done as Done·saved, Refused as Refused·saved}
-use Rattle.blocks.specs.Block.{fourAt}
-use Rattle.blocks.proofs.Differs.{agrees, differs, same}
-use Rattle.saved.specs.File.{fileLength, fileOf, savingTests}
+use Rattle.fileblocks.specs.FileBlock.{fileBlockBytes, checkAt, fourAt}
+use Rattle.scope.proofs.Differs.{agrees, differs, same}
+use Rattle.saved.specs.File.{fileLength, bytesFor, fileOf, savingTests}
 use Rattle.saved.specs.Promise.{saysSaving, SavingPromise}
 use Rattle.saved.proofs.Promises.{refuse-saving, grant-saving}
 use Rattle.map.specs.declared.Added.the-variants.{Done as Done·map}
@@ -40,7 +39,7 @@ use Rattle.map.proofs.Unique.{map-unique}
 use Rattle.hits.specs.declared.Listing.{Listing}
 use Rattle.hits.specs.declared.Listing.the-variants.{Done, More, Refused}
 use Rattle.hits.specs.Promise.{firstHitTests, listingTests, first as first-of, Listed, saysListing, listed, written, ListingPromise}
-use Rattle.figures.specs.Table.{HitPlace, runLine, vectors, hits, mapped, saved, Holds}
+use Rattle.figures.specs.Table.{HitPlace, vectors, hits, mapped, saved, Holds}
 
 -- ---- vectors
 
@@ -102,21 +101,21 @@ module _ (p r I first last : ℕ) (figure : List HitPlace) (cells : List ℕ)
     (window : complaint (windowTests I) ≡ none)
     (lines : complaint (lineTests first last) ≡ none)
     (period : complaint (periodTests p) ≡ none)
-    (some-cell : (T : ℕ) → leb (cellsOf (runLine I T first last)) 0 ≡ false)
-    (are : hitsFrom (runLine I r first last) (record { period = p }) 0 ≡ cells)
+    (some-cell : (T : ℕ) → leb (cellsOf (runWith I T first last)) 0 ≡ false)
+    (are : hitsFrom (runWith I r first last) (record { period = p }) 0 ≡ cells)
     (many : length cells ≡ length figure)
     (some : True (ltb 0 (length figure)))
-    (at : (T : ℕ) → map pos cells ≡ map (λ place. cellOf (runLine I T first last) (place .offset) (place .line)) figure) where
+    (at : (T : ℕ) → map pos cells ≡ map (λ place. cellOf (runWith I T first last) (place .offset) (place .line)) figure) where
   -- the hits of every interval with the remainder r, and room for them
   module _ (T : ℕ) (ticks : 1 ≤ T) (remainder : T % p ≡ r) (room : List ℕ) (e : length room ≡ length figure) where
-    granted : Passes (listingTests (runLine I T first last) (record { period = p }) (record { 0 = 0 }) room)
+    granted : Passes (listingTests (runWith I T first last) (record { period = p }) (record { 0 = 0 }) room)
     unfolding listingTests firstHitTests runTests sourceTests
     granted =
         both (both (both (both (both (record { is = window }) (record { is = lines })) (sound (ne-eqb T 0 (λ z. omega arith)))) (record { is = period })) (sound (some-cell T)))
         (sound (ne-eqb (length room) 0 (λ z. omega (arith, ltb→lt 0 (length figure) some))))
 
-    hit : hitsFrom (runLine I T first last) (record { period = p }) 0 ≡ cells
-    hit = hits-remainder (runLine I T first last) (record { period = p }) r (sym (mod-mod T p) ∙ ap (λ n. n % p) remainder) 0 ∙ are
+    hit : hitsFrom (runWith I T first last) (record { period = p }) 0 ≡ cells
+    hit = hits-remainder (runWith I T first last) (record { period = p }) r (sym (mod-mod T p) ∙ ap (λ n. n % p) remainder) 0 ∙ are
 
     -- the room is just used up
     whole : written cells room ≡ cells
@@ -135,10 +134,10 @@ module _ (p r I first last : ℕ) (figure : List HitPlace) (cells : List ℕ)
         next : first-of (drop (length room) cells) ≡ none
         next = rw (drop-of-length-le cells {i = length room} (omega (arith, e, many)))
 
-    said : reply (complaint (listingTests (runLine I T first last) (record { period = p }) (record { 0 = 0 }) room)) (listed (hitsFrom (runLine I T first last) (record { period = p }) 0) room) ≡ saysListing (Done (length figure))
+    said : reply (complaint (listingTests (runWith I T first last) (record { period = p }) (record { 0 = 0 }) room)) (listed (hitsFrom (runWith I T first last) (record { period = p }) 0) room) ≡ saysListing (Done (length figure))
     said = rw (granted .is, hit, counted)
 
-    held : stored (complaint (listingTests (runLine I T first last) (record { period = p }) (record { 0 = 0 }) room)) room (written (hitsFrom (runLine I T first last) (record { period = p }) 0) room) ≡ cells
+    held : stored (complaint (listingTests (runWith I T first last) (record { period = p }) (record { 0 = 0 }) room)) room (written (hitsFrom (runWith I T first last) (record { period = p }) 0) room) ≡ cells
     held = rw (granted .is, hit, whole)
 
   pub hits-row : Holds (hits p r I first last figure)
@@ -164,10 +163,10 @@ saved-done (Refused·saved n) e = cc
 module _ (run : Run) (cells : List ℕ) (size first second : ℕ)
     (passes : complaint (runTests run) ≡ none)
     (whole : eqb (length cells) (cellsOf run) ≡ true)
-    (room-size : size ≡ fileLength (cellsOf run))
+    (room-size : size ≡ fileLength (bytesFor run))
     (long : length (fileOf run cells) ≡ size)
-    (a : fourAt (fileOf run cells) 508 ≡ first)
-    (b : fourAt (fileOf run cells) 1020 ≡ second) where
+    (a : fourAt (fileOf run cells) checkAt ≡ first)
+    (b : fourAt (fileOf run cells) (fileBlockBytes + checkAt) ≡ second) where
   begun : Passes (runTests run andThen Room when not (eqb (length cells) (cellsOf run)))
   begun = both (record { is = passes }) (sound (ap not whole))
 
@@ -193,7 +192,7 @@ module _ (run : Run) (cells : List ℕ) (size first second : ℕ)
       from : (answer : Saved) (after : List ℕ) → SavingPromise run cells room answer after → length room ≡ size → answer ≡ Done·saved
       from answer after h e = saved-done answer (h .says ∙ sym (grant-reply tt (granted-room room e)))
 
-      holds : (answer : Saved) (after : List ℕ) → SavingPromise run cells room answer after → answer ≡ Done·saved → (length after ≡ size) × (fourAt after 508 ≡ first) × (fourAt after 1020 ≡ second)
+      holds : (answer : Saved) (after : List ℕ) → SavingPromise run cells room answer after → answer ≡ Done·saved → (length after ≡ size) × (fourAt after checkAt ≡ first) × (fourAt after (fileBlockBytes + checkAt) ≡ second)
       holds answer after h e =
           let is : after ≡ fileOf run cells = h .stores ∙ sym (grant-stored room (fileOf run cells) (granted-room room (to answer after h e))) in
-          (ap length is ∙ long, ap (λ f. fourAt f 508) is ∙ a, ap (λ f. fourAt f 1020) is ∙ b)
+          (ap length is ∙ long, ap (λ f. fourAt f checkAt) is ∙ a, ap (λ f. fourAt f (fileBlockBytes + checkAt)) is ∙ b)

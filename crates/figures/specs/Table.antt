@@ -1,13 +1,13 @@
 -- Document 01, "Bench figures": the starred ones, and the refusal that stands beside one of them, as they stand there; and what
 -- it is for a figure to hold.
-use Prim.Native.Nat.{ℕ, _%_, _≤_}
+use Prim.Native.Nat.{ℕ, _+_, _%_, _≤_}
 use mathlib.Core.Path.{_≡_}
 use mathlib.Core.List.{List, [], _∷_, map}
 use mathlib.Core.Logic.{_↔_}
 use lib.IntN.{ℤ, pos}
 use lib.ListN.{length, replicate}
 use Rattle.scope.specs.declared.Run.{Run}
-use Rattle.scope.specs.Run.{cellOf}
+use Rattle.scope.specs.Run.{runWith, cellOf}
 use Rattle.scope.specs.Reply.{Said, refused, answered}
 use Rattle.vectors.specs.declared.Steps.{Steps}
 use Rattle.vectors.specs.Vectors.{Values, pair, single}
@@ -17,7 +17,7 @@ use Rattle.map.specs.declared.Added.the-variants.{Done as Done·map}
 use Rattle.map.specs.Promise.{MapPromise}
 use Rattle.saved.specs.declared.Saved.{Saved}
 use Rattle.saved.specs.declared.Saved.the-variants.{Done as Done·saved}
-use Rattle.blocks.specs.Block.{fourAt}
+use Rattle.fileblocks.specs.FileBlock.{fileBlockBytes, checkAt, fourAt}
 use Rattle.saved.specs.Promise.{SavingPromise}
 use Rattle.hits.specs.declared.Listing.{Listing}
 use Rattle.hits.specs.declared.Listing.the-variants.{Done}
@@ -27,10 +27,6 @@ use Rattle.hits.specs.Promise.{ListingPromise}
 pub record HitPlace : Type 0 where
   pub offset : ℤ
   pub line : ℕ
-
--- "run I T first last".
-abbrev pub runLine : (I T first last : ℕ) → Run
-runLine I T first last = record { window = I; interval = T; first = first; last = last }
 
 -- A row of the table.
 pub data Figure : Type 0 where
@@ -50,8 +46,8 @@ abbrev pub Holds : Figure → Type 0
 Holds (vectors p r I figure) = (steps : Steps) → VectorsPromise p r I steps ↔ (saysVectors steps ≡ figure)
 Holds (hits p r I first last figure) =
     (T : ℕ) → 1 ≤ T → T % p ≡ r → (room : List ℕ) → length room ≡ length figure → (reply : Listing) (after : List ℕ) →
-    ListingPromise (runLine I T first last) (record { period = p }) (record { 0 = 0 }) room reply after ↔
-    ((reply ≡ Done (length figure)) × (map pos after ≡ map (λ place. cellOf (runLine I T first last) (place .offset) (place .line)) figure))
+    ListingPromise (runWith I T first last) (record { period = p }) (record { 0 = 0 }) room reply after ↔
+    ((reply ≡ Done (length figure)) × (map pos after ≡ map (λ place. cellOf (runWith I T first last) (place .offset) (place .line)) figure))
 Holds (mapped run periods weights figure) =
     (answer : Added) (after : List ℕ) →
     MapPromise run periods weights (replicate (length figure) 0) answer after ↔ ((answer ≡ Done·map) × (after ≡ figure))
@@ -59,7 +55,7 @@ Holds (saved run cells size first second) =
     (room : List ℕ) →
     ((answer : Saved) (after : List ℕ) → SavingPromise run cells room answer after →
     ((answer ≡ Done·saved) ↔ (length room ≡ size)) ×
-    (answer ≡ Done·saved → (length after ≡ size) × (fourAt after 508 ≡ first) × (fourAt after 1020 ≡ second))) ×
+    (answer ≡ Done·saved → (length after ≡ size) × (fourAt after checkAt ≡ first) × (fourAt after (fileBlockBytes + checkAt) ≡ second))) ×
     ((answer : Saved) × (after : List ℕ) × SavingPromise run cells room answer after)
 
 -- An offset below 0, as in -3.
@@ -76,7 +72,7 @@ hits-1-11 = place (minus 3) 2 ∷ place (pos 1) 3 ∷ place (minus 2) 5 ∷ plac
 
 -- "run 4 10 1 5".
 abbrev pub example : Run
-example = runLine 4 10 1 5
+example = runWith 4 10 1 5
 
 -- "map 0 200, map 3 200, map 5 255, map 10 200, map 12 255, map 15 200, map 17 200, map 19 60", the other cells being 0.
 abbrev pub exampleMap : List ℕ

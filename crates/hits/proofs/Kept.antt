@@ -16,7 +16,7 @@ use Rattle.scope.specs.Reply.{answered}
 use Rattle.scope.proofs.Hits.{hits-end, hits-at, hits-over}
 use Rattle.hits.specs.declared.Listing.the-variants.{Done, More}
 use Rattle.hits.specs.Promise.{first, listed, written}
-use Rattle.hits.specs.InnerSearch.{FirstFrom}
+use Rattle.search.specs.InnerSearch.{FirstFrom}
 use Rattle.hits.specs.InnerList.{ListsFrom}
 use Rattle.hits.proofs.Lists.{hits-same}
 

@@ -19,13 +19,13 @@ use Rattle.scope.specs.declared.Run.{Run}
 use Rattle.scope.specs.declared.Source.{Source}
 use Rattle.scope.specs.Run.{ValidRun, ValidSource, cellsOf, lineOf, offsetOf}
 use Rattle.scope.specs.Hit.{isHit}
-use Rattle.hits.specs.declared.walk.LineHit.{LineHit}
-use Rattle.hits.specs.declared.walk.Walk.{Walk}
+use Rattle.walk.specs.declared.LineHit.{LineHit}
+use Rattle.walk.specs.declared.Walk.{Walk}
 use Rattle.hits.specs.declared.Listing.the-variants.{Done, More}
 use Rattle.hits.specs.InnerList.{ListsFrom}
-use Rattle.hits.specs.InnerWalk.{Leads, Stands, Walking, NextLine}
-use Rattle.hits.proofs.Cells.{Points, rows-le, point-hit, hit-point, missed, own-line, inside-cells}
-use Rattle.hits.proofs.Walks.{shifted-le, shifted-lt, apart-by, fits-at}
+use Rattle.walk.specs.InnerWalk.{Leads, Stands, Walking, NextLine}
+use Rattle.search.proofs.Cells.{Points, rows-le, point-hit, hit-point, missed, own-line, inside-cells}
+use Rattle.walk.proofs.Walks.{apart-by, fits-at}
 use Rattle.hits.proofs.Kept.{Kept, kept-over, kept-end, kept-write, kept-more, kept-done}
 
 -- what stays
@@ -49,58 +49,29 @@ pub record Head (run : Run) (source : Source) (start : ℕ) (before room : List 
   pub kept : Kept run source start before room n cell
   pub running : cell < cellsOf run → Running run source at cell offset
 
--- within the line of `at`, at distance e from the left edge, which may be past the line's end
-pub record Inside (run : Run) (source : Source) (start : ℕ) (before room : List ℕ) (n cell offset : ℕ) (at : LineHit) : Type 0 where
+-- within the line of `at`, at distance e from the left edge, which may be past the line's end: as far past the right edge
+pub record Inside (run : Run) (source : Source) (start : ℕ) (before room : List ℕ) (n cell past : ℕ) (at : LineHit) : Type 0 where
   pub stands : Stands run source at
   pub below : at .cell .0 < cellsOf run
   pub e : ℕ
   pub cell-is : cell ≡ at .cell .0 / run .window * run .window + e
-  pub offset-is : toZ w64 offset ≡ pos e -ℤ pos (run .window / 2)
+  pub past-is : toZ w64 past ≡ pos e -ℤ pos (run .window)
   pub on : Points run source e (run .first + at .cell .0 / run .window)
   pub near : e < run .window + source .period
   pub kept : Kept run source start before room n (at .cell .0 / run .window * run .window + min e (run .window))
 
 module _ {run : Run} {source : Source} {start all period end : ℕ} {walk : Walk} (fixed : Fixed run source all period end walk) {before : List ℕ} where
-  -- into a line
-  pub enter : {room : List ℕ} {n cell offset : ℕ} {at : LineHit} → cell < all → Head run source start before room n cell offset at → Inside run source start before room n cell offset at
-  unfolding offsetOf
-  enter {room} {n} {cell} {offset} {at} in′ h =
-      let v = fixed .valid in
-      let r = h .running (omega (arith, fixed .all-is)) in
-      let line = r .line in
-      let some = v .narrow in
-      let m = mod-lt cell {m = run .window} (omega arith) in
-      let parts′ = div-add-mod' cell (run .window) in
-      let am = mod-lt (at .cell .0) {m = run .window} (omega arith) in
-      let aparts = div-add-mod' (at .cell .0) (run .window) in
-      let there : cell ≡ at .cell .0 / run .window * run .window + cell % run .window = omega (arith, ap (λ k. k * run .window) line) in
-      let same : at .cell .0 / run .window * run .window + min (cell % run .window) (run .window) ≡ cell = omega (arith, there) in
-      record {
-        stands = r .stands;
-        below = omega (arith, inside-cells (at .cell .0 / run .window) {e = at .cell .0 % run .window} v am (rw line (own-line v (omega (arith, fixed .all-is)))));
-        e = cell % run .window;
-        cell-is = there;
-        offset-is = r .offset-is;
-        on = rw line (point-hit run source cell (r .hit));
-        near = omega arith;
-        kept = rw same (h .kept);
-      }
+  -- at the head of a line
+  module _ {room : List ℕ} {n cell offset : ℕ} {at : LineHit} (in′ : cell < all) (h : Head run source start before room n cell offset at) where
+    here : Running run source at cell offset
+    here = h .running (omega (arith, fixed .all-is))
 
-  -- ---- within the line
-
-  module _ {room : List ℕ} {n cell offset : ℕ} {at : LineHit} (i : Inside run source start before room n cell offset at) where
-    by-distance : toZ w64 offset +ℤ pos (run .window / 2) ≡ pos (i .e)
-    by-distance = rw (i .offset-is) (apart-by (i .e) (run .window / 2))
-
-    by-end : toZ w64 end +ℤ pos (run .window / 2) ≡ pos (run .window)
-    by-end = rw (fixed .end-is) (apart-by (run .window) (run .window / 2))
-
-    -- the test of the inner loop
-    pub within : ltZ (toZ w64 offset) (toZ w64 end) ≡ true → i .e < run .window
-    within t = shifted-lt (toZ w64 offset) (toZ w64 end) (run .window / 2) by-distance by-end (ltZ-true (toZ w64 offset) (toZ w64 end) t)
-
-    pub beyond : ltZ (toZ w64 offset) (toZ w64 end) ≡ false → run .window ≤ i .e
-    beyond t = shifted-le (toZ w64 end) (toZ w64 offset) (run .window / 2) by-end by-distance (ltZ-false (toZ w64 offset) (toZ w64 end) t)
+    below : at .cell .0 < cellsOf run
+    below =
+        let v = fixed .valid in
+        let some = v .narrow in
+        let m = mod-lt (at .cell .0) {m = run .window} (omega arith) in
+        omega (arith, div-add-mod' (at .cell .0) (run .window), inside-cells (at .cell .0 / run .window) {e = at .cell .0 % run .window} v m (rw (here .line) (own-line v (omega (arith, fixed .all-is)))))
 
     pub walking : Walking walk at
     walking = record {
@@ -109,9 +80,58 @@ module _ {run : Run} {source : Source} {start all period end : ℕ} {walk : Walk
       valid = fixed .valid;
       source-valid = fixed .source-valid;
       leads = fixed .leads;
-      stands = i .stands;
-      inside = i .below;
+      stands = here .stands;
+      inside = below;
     }
+
+    -- the offset, counted from the right edge
+    from-edge : (toZ w64 offset -ℤ toZ w64 end) ≡ pos (cell % run .window) -ℤ pos (run .window)
+    unfolding offsetOf
+    from-edge =
+        let o = here .offset-is in
+        let e = fixed .end-is in
+        let h = pos (run .window / 2) in
+        let w = pos (run .window) in
+        let d = pos (cell % run .window) in
+        omega (arith, parts, sum (toZ w64 offset) (negℤ (toZ w64 end)), neg-up (toZ w64 end), neg-dn (toZ w64 end), sum w (negℤ h), sum d (negℤ h), sum d (negℤ w), neg-up h, neg-dn h, neg-up w, neg-dn w)
+
+    pub edge-fits : SFits w64 (toZ w64 offset -ℤ toZ w64 end)
+    edge-fits =
+        let w = fixed .valid .wide in
+        let some = fixed .valid .narrow in
+        fits-at (cell % run .window) (run .window) from-edge (omega (arith, mod-lt cell {m = run .window} (omega arith))) w
+
+    -- into the line
+    pub enter : Inside run source start before room n cell (ofZ w64 (toZ w64 offset -ℤ toZ w64 end)) at
+    enter =
+        let some = fixed .valid .narrow in
+        let line = here .line in
+        let m = mod-lt cell {m = run .window} (omega arith) in
+        let there : cell ≡ at .cell .0 / run .window * run .window + cell % run .window = omega (arith, div-add-mod' cell (run .window), ap (λ k. k * run .window) line) in
+        let same : at .cell .0 / run .window * run .window + min (cell % run .window) (run .window) ≡ cell = omega (arith, there) in
+        record {
+          stands = here .stands;
+          below = below;
+          e = cell % run .window;
+          cell-is = there;
+          past-is = toZ-ofZ edge-fits ∙ from-edge;
+          on = rw line (point-hit run source cell (here .hit));
+          near = omega arith;
+          kept = rw same (h .kept);
+        }
+
+  -- ---- within the line
+
+  module _ {room : List ℕ} {n cell past : ℕ} {at : LineHit} (i : Inside run source start before room n cell past at) where
+    by-distance : toZ w64 past +ℤ pos (run .window) ≡ pos (i .e)
+    by-distance = rw (i .past-is) (apart-by (i .e) (run .window))
+
+    -- the test of the inner loop
+    pub within : ltZ (toZ w64 past) (pos 0) ≡ true → i .e < run .window
+    within t = let l = ltZ-true (toZ w64 past) (pos 0) t in let d = by-distance in omega (arith, parts, sum (toZ w64 past) (pos (run .window)))
+
+    pub beyond : ltZ (toZ w64 past) (pos 0) ≡ false → run .window ≤ i .e
+    beyond t = let l = ltZ-false (toZ w64 past) (pos 0) t in let d = by-distance in omega (arith, parts, sum (toZ w64 past) (pos (run .window)))
 
     module _ (in′ : i .e < run .window) where
       pub cell-in : cell < cellsOf run
@@ -123,23 +143,23 @@ module _ {run : Run} {source : Source} {start all period end : ℕ} {walk : Walk
       pub kept-here : Kept run source start before room n cell
       kept-here = let same : at .cell .0 / run .window * run .window + min (i .e) (run .window) ≡ cell = omega (arith, i .cell-is) in rw same at (i .kept)
 
-      -- the next offset
+      -- the next offset, counted from the right edge
       period-held : toZ w64 period ≡ pos (source .period)
       period-held = rw (fixed .period-is) (toZ-pos w64 (omega (arith, fixed .source-valid .fits)))
 
-      pub offset-fits : SFits w64 (toZ w64 offset +ℤ toZ w64 period)
-      offset-fits =
+      pub past-fits : SFits w64 (toZ w64 past +ℤ toZ w64 period)
+      past-fits =
           let b = by-distance in
           let w = fixed .valid .wide in
           let f = fixed .source-valid .fits in
-          rw period-held (omega (arith, parts, sum (toZ w64 offset) (pos (run .window / 2)), sum (toZ w64 offset) (pos (source .period)), apart (toZ w64 offset), apart (toZ w64 offset +ℤ pos (source .period))))
+          rw period-held (omega (arith, parts, sum (toZ w64 past) (pos (run .window)), sum (toZ w64 past) (pos (source .period)), apart (toZ w64 past), apart (toZ w64 past +ℤ pos (source .period))))
 
-      offset-next : toZ w64 (ofZ w64 (toZ w64 offset +ℤ toZ w64 period)) ≡ pos (i .e + source .period) -ℤ pos (run .window / 2)
-      offset-next =
+      past-next : toZ w64 (ofZ w64 (toZ w64 past +ℤ toZ w64 period)) ≡ pos (i .e + source .period) -ℤ pos (run .window)
+      past-next =
           let b = by-distance in
-          let h = pos (run .window / 2) in
-          let e : toZ w64 offset +ℤ pos (source .period) ≡ pos (i .e + source .period) -ℤ pos (run .window / 2) = omega (arith, parts, sum (toZ w64 offset) h, sum (toZ w64 offset) (pos (source .period)), sum (pos (i .e + source .period)) (negℤ h), neg-up h, neg-dn h) in
-          toZ-ofZ offset-fits ∙ rw period-held e
+          let w = pos (run .window) in
+          let e : toZ w64 past +ℤ pos (source .period) ≡ pos (i .e + source .period) -ℤ w = omega (arith, parts, sum (toZ w64 past) w, sum (toZ w64 past) (pos (source .period)), sum (pos (i .e + source .period)) (negℤ w), neg-up w, neg-dn w) in
+          toZ-ofZ past-fits ∙ rw period-held e
 
       -- no hit between this one and the next, or the line's end
       gap : (z : ℕ) → cell + 1 ≤ z → z < at .cell .0 / run .window * run .window + min (i .e + source .period) (run .window) → isHit run source z ≡ false
@@ -151,7 +171,7 @@ module _ {run : Run} {source : Source} {start all period end : ℕ} {walk : Walk
           let far = leftmost-next (fixed .source-valid .ticks) (i .on) .least d (omega (arith, i .cell-is, ap (λ x. x * run .window) same)) (subst (λ x. Points run source d (run .first + x)) same o) in
           omega (arith, ap (λ x. x * run .window) same))
 
-      pub write : n < length room → Inside run source start before (set room n cell) (n + 1) (cell + period) (ofZ w64 (toZ w64 offset +ℤ toZ w64 period)) at
+      pub write : n < length room → Inside run source start before (set room n cell) (n + 1) (cell + period) (ofZ w64 (toZ w64 past +ℤ toZ w64 period)) at
       write l =
           let k = kept-write l cell-in cell-hit kept-here in
           record {
@@ -159,7 +179,7 @@ module _ {run : Run} {source : Source} {start all period end : ℕ} {walk : Walk
             below = i .below;
             e = i .e + source .period;
             cell-is = omega (arith, i .cell-is, fixed .period-is);
-            offset-is = offset-next;
+            past-is = past-next;
             on = leftmost-next (fixed .source-valid .ticks) (i .on) .on;
             near = omega arith;
             kept = kept-over (omega (arith, i .cell-is, fixed .source-valid .ticks)) gap k;
@@ -196,15 +216,15 @@ pub record Ended (run : Run) (source : Source) (start : ℕ) (before room : List
   pub full : next < cellsOf run → n ≡ length room
   pub hit : next < cellsOf run → isHit run source next ≡ true
 
-module _ {run : Run} {source : Source} {start all period end : ℕ} {walk : Walk} (fixed : Fixed run source all period end walk) {before room : List ℕ} {n cell offset : ℕ} {at : LineHit} where
+module _ {run : Run} {source : Source} {start all period end : ℕ} {walk : Walk} (fixed : Fixed run source all period end walk) {before room : List ℕ} {n cell : ℕ} {at : LineHit} where
   -- the walk went past the last cell
-  pub ran-out : Head run source start before room n cell offset at → all ≤ cell → Ended run source start before room n all
+  pub ran-out : {offset : ℕ} → Head run source start before room n cell offset at → all ≤ cell → Ended run source start before room n all
   ran-out h out =
       let is = fixed .all-is in
       record { kept = kept-end all (omega arith) (omega arith) (h .kept); full = λ l. absurd (omega arith); hit = λ l. absurd (omega arith) }
 
   -- the room was full within a line
-  pub filled : (i : Inside run source start before room n cell offset at) → i .e < run .window → n ≡ length room → Ended run source start before room n cell
+  pub filled : {past : ℕ} (i : Inside run source start before room n cell past at) → i .e < run .window → n ≡ length room → Ended run source start before room n cell
   filled i in′ e = record { kept = kept-here fixed i in′; full = λ l. e; hit = λ l. cell-hit fixed i in′ }
 
 module _ {run : Run} {source : Source} {start : ℕ} {before room : List ℕ} {n next : ℕ} (ended : Ended run source start before room n next) where

@@ -20,7 +20,7 @@ use Rattle.scope.specs.Hit.{Hits}
 use Rattle.scope.proofs.Limits.{halves}
 use Rattle.scope.proofs.Hits.{hits-on}
 use Rattle.hits.specs.Proposition.{InWindow, NextHit, Cases}
-use Rattle.hits.proofs.Cells.{Points, on-points, way, arrive}
+use Rattle.search.proofs.Cells.{Points, on-points, way, arrive}
 
 module _ {run : Run} (v : ValidRun run) (source : Source) where
   -- an offset of the window, by its distance from the left edge

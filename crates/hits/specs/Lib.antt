@@ -1,5 +1,4 @@
 pub mod Promise
 pub mod Proposition
-pub mod InnerSearch
-pub mod InnerWalk
 pub mod InnerList
+pub mod Table

@@ -5,13 +5,12 @@ use scope::RunCell;
 use scope::Source;
 use scope::Verdict;
 ghost use mathlib.Core.Path.{_≡_};
+ghost use Prim.Native.Nat.{_<_};
+ghost use Rattle.scope.specs.Run.{ValidRun, ValidSource, cellsOf};
 ghost use Rattle.scope.specs.Refusal.{complaint};
 ghost use Rattle.scope.specs.InnerVerdict.{verdict};
 ghost use Rattle.hits.specs.Promise.{firstHitTests, FirstHitPromise, ListingPromise};
-
-pub mod list;
-pub mod search;
-pub mod walk;
+ghost use Rattle.hits.specs.InnerList.{ListsFrom};
 
 // The reply of the first-hit call.
 pub enum FirstHit {
@@ -67,6 +66,51 @@ pub fn first_hit(run: Run, source: Source, start: RunCell) -> FirstHit
     FirstHit::Nothing
 }
 
+// The hits from `start` on, written until there are no more or the room is full: line by line, and on a line at offsets that
+// lie a period apart. `at` is the first hit of the line and `to` that of the next line that has one, worked out before the
+// line is written, so that the processor has it by then. `cell` and `offset` are those of the hit that is next; within the
+// line its offset is counted from the window's right edge, `past`, so that the test is one of the sign.
+fn write_hits(run: Run, source: Source, start: RunCell, room: &mut [u64]) -> Listing
+    requires { ⌜ ValidRun run × ValidSource source × start .0 < cellsOf run ⌝ }
+    ensures { λ r. ⌜ ListsFrom run source (start .0) (now (room .entry)) r (now (room .exit)) ⌝ }
+{
+    let all = scope::cells(run);
+    let first = search::find_hit(run, source, start);
+    if all <= first.0 {
+        return Listing::Done(0);
+    }
+    let window = run.window;
+    let period = source.period;
+    let end = walk::offset_at(window as u64, window);
+    let walk = walk::plan(run, source);
+    let mut cell = first.0;
+    let mut offset = walk::offset_at(cell % window as u64, window);
+    let mut at = walk::line_hit_of(run, source, first);
+    let mut next = all;
+    let mut n: usize = 0;
+    'lines: while cell < all {
+        let to = walk.next(at);
+        let mut past = offset - end;
+        while past < 0 {
+            if n == room.len() {
+                next = cell;
+                break 'lines;
+            }
+            room[n] = cell;
+            n += 1;
+            past += period as i64;
+            cell += period as u64;
+        }
+        at = to;
+        cell = to.cell.0;
+        offset = to.offset;
+    }
+    if next < all {
+        return Listing::More(n, RunCell(next));
+    }
+    Listing::Done(n)
+}
+
 // Public operation. The hit cells of a run that are not below the start, written into the room in rising order; what comes
 // back is their count and, if one is left that did not fit, the next. Nothing is stored before the last test is passed.
 // Refused, in this order: 1, 2, 3 for the run, 4 for the source, 8 for the start, 9 for an empty room.
@@ -79,5 +123,5 @@ pub fn list_hits(run: Run, source: Source, start: RunCell, room: &mut [u64]) -> 
     if room.len() == 0 {
         return Listing::Refused(9);
     }
-    list::write_hits(run, source, start, room)
+    write_hits(run, source, start, room)
 }

@@ -6,7 +6,8 @@ use libc::STDIN_FILENO;
 use libc::STDOUT_FILENO;
 ghost use mathlib.Core.Path.{_≡_};
 ghost use lib.ListN.{length};
-ghost use Rattle.report.specs.Report.{zeros, PrintedOf};
+ghost use Rattle.rooms.specs.Lists.{zeros};
+ghost use Rattle.report.specs.Promise.{PrintedOf};
 ghost use Rattle.list.specs.Reading.{Stopped, inputOf, Whole};
 
 // What was read: so many bytes, and what the last read answered.

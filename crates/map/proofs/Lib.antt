@@ -3,3 +3,4 @@ pub mod Entries
 pub mod Rows
 pub mod Unique
 pub mod Walked
+pub mod Table

@@ -3,6 +3,7 @@ use Prim.Native.Nat.{ℕ}
 use mathlib.Core.Path.{_≡_, refl, sym, _∙_}
 use mathlib.Core.List.{List}
 use Rattle.scope.specs.declared.Run.{Run}
+use Rattle.scope.specs.Run.{ceiling}
 use Rattle.scope.specs.Reply.{answered}
 use Rattle.scope.proofs.Judged.{Fails, Passes, refuse-reply, refuse-stored, grant-reply, grant-stored}
 use Rattle.map.specs.declared.Added.{Added}
@@ -11,15 +12,15 @@ use Rattle.sources.specs.Entry.{entriesOf}
 use Rattle.map.specs.Promise.{mapTests, added, saysMap, MapPromise}
 
 module _ {run : Run} {periods weights map : List ℕ} where
-  pub refused-call : {n : ℕ} → Fails (mapTests 255 run periods weights map) n → MapPromise run periods weights map (Refused n) map
-  refused-call f = record { says = refuse-reply tt f; stores = refuse-stored map (added 255 run (entriesOf periods weights) map) f }
+  pub refused-call : {n : ℕ} → Fails (mapTests ceiling run periods weights map) n → MapPromise run periods weights map (Refused n) map
+  refused-call f = record { says = refuse-reply tt f; stores = refuse-stored map (added ceiling run (entriesOf periods weights) map) f }
 
-  pub granted-call : {after : List ℕ} → Passes (mapTests 255 run periods weights map) → after ≡ added 255 run (entriesOf periods weights) map → MapPromise run periods weights map Done after
-  granted-call p e = record { says = grant-reply tt p; stores = e ∙ grant-stored map (added 255 run (entriesOf periods weights) map) p }
+  pub granted-call : {after : List ℕ} → Passes (mapTests ceiling run periods weights map) → after ≡ added ceiling run (entriesOf periods weights) map → MapPromise run periods weights map Done after
+  granted-call p e = record { says = grant-reply tt p; stores = e ∙ grant-stored map (added ceiling run (entriesOf periods weights) map) p }
 
   -- what the tests' passing makes of the call
-  pub stores-added : {answer : Added} {after : List ℕ} → Passes (mapTests 255 run periods weights map) → MapPromise run periods weights map answer after → (saysMap answer ≡ answered tt) × (after ≡ added 255 run (entriesOf periods weights) map)
-  stores-added p m = (m .says ∙ sym (grant-reply tt p), m .stores ∙ sym (grant-stored map (added 255 run (entriesOf periods weights) map) p))
+  pub stores-added : {answer : Added} {after : List ℕ} → Passes (mapTests ceiling run periods weights map) → MapPromise run periods weights map answer after → (saysMap answer ≡ answered tt) × (after ≡ added ceiling run (entriesOf periods weights) map)
+  stores-added p m = (m .says ∙ sym (grant-reply tt p), m .stores ∙ sym (grant-stored map (added ceiling run (entriesOf periods weights) map) p))
 
 -- an answer is told by what it says
 pub says-map-injective : (a b : Added) → saysMap a ≡ saysMap b → a ≡ b

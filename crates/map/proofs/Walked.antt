@@ -10,15 +10,15 @@ use mathlib.Core.List.{List, [], _∷_}
 use lib.ListN.{length, getD, set}
 use Rattle.scope.specs.declared.Run.{Run}
 use Rattle.scope.specs.declared.Source.{Source}
-use Rattle.scope.specs.Run.{ValidRun, ValidSource, UpTo, linesOf, cellsOf, lineOf}
+use Rattle.scope.specs.Run.{ValidRun, ValidSource, ceiling, UpTo, linesOf, cellsOf, lineOf}
 use Rattle.scope.specs.Hit.{isHit}
 use Rattle.sources.specs.Entry.{Entry}
 use Rattle.scope.proofs.Numbering.{cell-order}
 use Rattle.scope.proofs.Hits.{hit-or-miss, one-hit-on-line}
-use Rattle.hits.specs.declared.walk.Walk.{Walk}
-use Rattle.hits.specs.declared.walk.LineHit.{LineHit}
-use Rattle.hits.specs.InnerSearch.{FirstFrom}
-use Rattle.hits.specs.InnerWalk.{Leads, Stands, Walking, NextLine, Walks, Begins}
+use Rattle.walk.specs.declared.Walk.{Walk}
+use Rattle.walk.specs.declared.LineHit.{LineHit}
+use Rattle.search.specs.InnerSearch.{FirstFrom}
+use Rattle.walk.specs.InnerWalk.{Leads, Stands, Walking, NextLine, Walks, Begins}
 use Rattle.map.specs.Sum.{capped}
 use Rattle.map.specs.Promise.{weightAt}
 use Rattle.map.proofs.Raised.{RaisedBelow, starts, over, past, store}
@@ -47,11 +47,11 @@ pub record Begun (run : Run) (source : Source) (walk : Walk) (old : List ℕ) : 
   pub wide : run .window ≤ source .period
   pub leads : Leads run source walk
   pub whole : length old ≡ cellsOf run
-  pub small : UpTo 255 old
+  pub small : UpTo ceiling old
 
 -- where it stands: the hits before are added, and this is the next one if it lies in the run
 pub record Walked (run : Run) (source : Source) (weight : ℕ) (old map : List ℕ) (at : LineHit) : Type 0 where
-  pub done : RaisedBelow 255 (weightAt run (only source weight)) old (at .cell .0) map
+  pub done : RaisedBelow ceiling (weightAt run (only source weight)) old (at .cell .0) map
   pub stands : at .cell .0 < cellsOf run → Stands run source at
 
 module _ {run : Run} {source : Source} {walk : Walk} {old : List ℕ} (begun : Begun run source walk old) (weight : ℕ) where
@@ -82,13 +82,13 @@ module _ {run : Run} {source : Source} {walk : Walk} {old : List ℕ} (begun : B
   walk-rises so-far inside walks = on so-far inside walks .rises
 
   -- a hit is added, and the walk goes on
-  pub walk-on : {map : List ℕ} {at to : LineHit} {cell v : ℕ} → Walked run source weight old map at → cell ≡ at .cell .0 → cell < length map → v ≡ capped 255 (getD map cell 0 + weight) → Walks walk at to → Walked run source weight old (set map cell v) to
+  pub walk-on : {map : List ℕ} {at to : LineHit} {cell v : ℕ} → Walked run source weight old map at → cell ≡ at .cell .0 → cell < length map → v ≡ capped ceiling (getD map cell 0 + weight) → Walks walk at to → Walked run source weight old (set map cell v) to
   walk-on {map} {at} {to} {cell} {v} so-far same inside e walks =
       let l = so-far .done .as-long in
       let w = begun .whole in
       let here = so-far .stands (omega arith) in
       let next = on so-far (omega arith) walks in
-      let put = store (so-far .done) (omega arith) ((rw same at e) ∙ ap (λ n. capped 255 (getD map (at .cell .0) 0 + n)) (sym (hit-weighs run source weight (at .cell .0) (here .hit)))) in
+      let put = store (so-far .done) (omega arith) ((rw same at e) ∙ ap (λ n. capped ceiling (getD map (at .cell .0) 0 + n)) (sym (hit-weighs run source weight (at .cell .0) (here .hit)))) in
       record {
         done = rw same (over put (begun .small) (next .rises) (λ z from to. miss-weighs run source weight z (between here next z from to)));
         stands = λ k. next .stands;
@@ -104,8 +104,8 @@ module _ {run : Run} {source : Source} {walk : Walk} {old : List ℕ} (begun : B
   pub walk-starts : {cell : ℕ} {at : LineHit} → FirstFrom run source 0 cell → Begins run source cell at → Walked run source weight old old at
   walk-starts {cell} {at} first begins = go (decLt cell (cellsOf run))
     where
-      so : RaisedBelow 255 (weightAt run (only source weight)) old cell old
-      so = over (starts 255 _ old) (begun .small) (omega arith) (λ z from to. miss-weighs run source weight z (first .none z from to))
+      so : RaisedBelow ceiling (weightAt run (only source weight)) old cell old
+      so = over (starts ceiling _ old) (begun .small) (omega arith) (λ z from to. miss-weighs run source weight z (first .none z from to))
 
       go : Dec (cell < cellsOf run) → Walked run source weight old old at
       go (yes k) =

@@ -7,7 +7,7 @@ use mathlib.Core.List.{List, [], _∷_}
 use lib.Dec.{ltb, leb, eqb}
 use lib.ListN.{length}
 use Rattle.scope.specs.declared.Run.{Run}
-use Rattle.scope.specs.Run.{ValidRun, cellsOf}
+use Rattle.scope.specs.Run.{ValidRun, ceiling, cellsOf}
 use Rattle.scope.specs.Refusal.{complaint}
 use Rattle.sources.specs.Entry.{Entry, entriesOf, listTests}
 
@@ -15,7 +15,7 @@ use Rattle.sources.specs.Entry.{Entry, entriesOf, listTests}
 pub record Addable (run : Run) (periods weights map : List ℕ) : Type 0 where
   pub valid : ValidRun run
   pub equal : length periods ≡ length weights
-  pub sound : complaint (listTests 255 1 (entriesOf periods weights)) ≡ none
+  pub sound : complaint (listTests ceiling 1 (entriesOf periods weights)) ≡ none
   pub whole : length map ≡ cellsOf run
 
 -- The entries whose period is at least `low` and below `high`.

@@ -6,7 +6,7 @@ use mathlib.Core.List.{List, [], _∷_}
 use lib.Dec.{eqb}
 use lib.ListN.{length}
 use Rattle.scope.specs.declared.Run.{Run}
-use Rattle.scope.specs.Run.{cellsOf}
+use Rattle.scope.specs.Run.{ceiling, cellsOf}
 use Rattle.scope.specs.Hit.{isHit}
 use Rattle.scope.specs.Refusal.{Tests, _when_, _andThen_, Room, Lists, complaint, runTests}
 use Rattle.sources.specs.Entry.{Entry, entriesOf, listTests}
@@ -17,10 +17,10 @@ use Rattle.map.specs.declared.Added.the-variants.{Done, Refused}
 
 -- "Map: 1, 2, 3, 10, then source by source 4 before 7, then 9". "10: period and weight lists of unequal length", "9: map .. not of the exact length".
 unfoldable pub mapTests : ℕ → Run → List ℕ → List ℕ → List ℕ → Tests
-mapTests ceiling run periods weights map =
+mapTests c run periods weights map =
     runTests run andThen
     Lists when not (eqb (length periods) (length weights)) andThen
-    listTests ceiling 1 (entriesOf periods weights) andThen
+    listTests c 1 (entriesOf periods weights) andThen
     Room when not (eqb (length map) (cellsOf run))
 
 -- "weights of all list entries that hit it", of cell x. "A period listed twice counts twice."
@@ -30,7 +30,7 @@ weightAt run (entry ∷ entries) x = cond (isHit run (entry .source) x) (entry .
 
 -- "Every cell becomes the smaller of 255 and old value + weights of all list entries that hit it."
 unfoldable pub added : ℕ → Run → List Entry → List ℕ → List ℕ
-added ceiling run entries cells = raised ceiling (weightAt run entries) 0 cells
+added c run entries cells = raised c (weightAt run entries) 0 cells
 
 -- 01's number for each case of the answer.
 abbrev pub saysMap : Added → Said (Unit {0})
@@ -39,5 +39,5 @@ saysMap (Refused number) = refused number
 
 -- The promise of the map call: what it says, and what every cell holds afterwards.
 pub record MapPromise (run : Run) (periods weights map : List ℕ) (answer : Added) (after : List ℕ) : Type 0 where
-  pub says : saysMap answer ≡ reply (complaint (mapTests 255 run periods weights map)) tt
-  pub stores : after ≡ stored (complaint (mapTests 255 run periods weights map)) map (added 255 run (entriesOf periods weights) map)
+  pub says : saysMap answer ≡ reply (complaint (mapTests ceiling run periods weights map)) tt
+  pub stores : after ≡ stored (complaint (mapTests ceiling run periods weights map)) map (added ceiling run (entriesOf periods weights) map)

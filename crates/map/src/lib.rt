@@ -1,6 +1,7 @@
-// The map: every cell's sum of the weights of the sources that hit it, up to 255.
+// The map: every cell's sum of the weights of the sources that hit it, up to the ceiling.
 // Every function is proved. `add_to_map` is the one public operation here, and it asks nothing of its caller.
 use scope::BlockCell;
+use scope::CEILING;
 use scope::Run;
 use scope::RunCell;
 use scope::Source;
@@ -9,7 +10,8 @@ ghost use mathlib.Core.Path.{_≡_};
 ghost use mathlib.Core.List.{[], _∷_};
 ghost use Prim.Native.Nat.{min, _+_, _-_, _≤_, _<_, _^_};
 ghost use lib.ListN.{length};
-ghost use Rattle.scope.specs.Run.{ValidRun, ValidSource, IsBlock, cellsOf};
+ghost use Rattle.scope.specs.Run.{ValidRun, ValidSource, ceiling, cellsOf};
+ghost use Rattle.scope.specs.InnerBlock.{IsBlock};
 ghost use Rattle.sources.specs.Entry.{entriesOf};
 ghost use Rattle.map.specs.Sum.{capped, raised};
 ghost use Rattle.map.specs.Promise.{added, MapPromise};
@@ -32,12 +34,12 @@ const SHORT: u32 = 2048;
 // One more than the longest period: below it are all.
 const PERIODS: u32 = 2147483648;
 
-// A cell's new value: its old one and the weight, or 255 if that is more. The test stays within a byte.
+// A cell's new value: its old one and the weight, or the ceiling if that is more. The test stays within the cell's width.
 fn plus(cell: u8, weight: u8) -> u8
-    ensures { λ r. ⌜ r ≡ capped 255 (cell + weight) ⌝ }
+    ensures { λ r. ⌜ r ≡ capped ceiling (cell + weight) ⌝ }
 {
-    if cell > 255 - weight {
-        255
+    if cell > CEILING - weight {
+        CEILING
     } else {
         cell + weight
     }
@@ -46,7 +48,7 @@ fn plus(cell: u8, weight: u8) -> u8
 // Adds a weight to the cells of a line at the distances start, start + period, and so on.
 fn add_line(line: &mut [u8], start: usize, period: usize, weight: u8)
     requires { ⌜ (start < period) × (period < 2 ^ 32) ⌝ }
-    ensures { λ _. ⌜ now (line .exit) ≡ raised 255 (spaced period start weight) 0 (now (line .entry)) ⌝ }
+    ensures { λ _. ⌜ now (line .exit) ≡ raised ceiling (spaced period start weight) 0 (now (line .entry)) ⌝ }
 {
     let mut d = start;
     while d < line.len() {
@@ -59,12 +61,12 @@ fn add_line(line: &mut [u8], start: usize, period: usize, weight: u8)
 // interval: that is one sum, less a period if it comes to one or more, and no division.
 fn add_rows(run: Run, source: Source, weight: u8, map: &mut [u8])
     requires { ⌜ ValidRun run × ValidSource source × (length (now map) ≡ cellsOf run) ⌝ }
-    ensures { λ _. ⌜ now (map .exit) ≡ added 255 run (record { source = source; weight = weight } ∷ []) (now (map .entry)) ⌝ }
+    ensures { λ _. ⌜ now (map .exit) ≡ added ceiling run (record { source = source; weight = weight } ∷ []) (now (map .entry)) ⌝ }
 {
     let window = run.window as usize;
     let period = source.period as usize;
     let step = run.interval as usize % period;
-    let mut start = hits::search::distance(run, source, run.first as u64) as usize;
+    let mut start = search::distance(run, source, run.first as u64) as usize;
     let mut base: usize = 0;
     while base < map.len() {
         add_line(&mut map[base..base + window], start, period, weight);
@@ -80,11 +82,11 @@ fn add_rows(run: Run, source: Source, weight: u8, map: &mut [u8])
 // to the next it is then at most two comparisons, and two sums, however many lines lie between.
 fn add_hits(run: Run, source: Source, weight: u8, map: &mut [u8])
     requires { ⌜ ValidRun run × ValidSource source × (run .window ≤ source .period) × (length (now map) ≡ cellsOf run) ⌝ }
-    ensures { λ _. ⌜ now (map .exit) ≡ added 255 run (record { source = source; weight = weight } ∷ []) (now (map .entry)) ⌝ }
+    ensures { λ _. ⌜ now (map .exit) ≡ added ceiling run (record { source = source; weight = weight } ∷ []) (now (map .entry)) ⌝ }
 {
-    let walk = hits::walk::plan(run, source);
-    let first = hits::search::find_hit(run, source, RunCell(0));
-    let mut at = hits::walk::line_hit_of(run, source, first);
+    let walk = walk::plan(run, source);
+    let first = search::find_hit(run, source, RunCell(0));
+    let mut at = walk::line_hit_of(run, source, first);
     let mut cell = at.cell.0 as usize;
     while cell < map.len() {
         map[cell] = plus(map[cell], weight);
@@ -96,7 +98,7 @@ fn add_hits(run: Run, source: Source, weight: u8, map: &mut [u8])
 // Adds one source to the map of a run.
 fn add_source(run: Run, source: Source, weight: u8, map: &mut [u8])
     requires { ⌜ ValidRun run × ValidSource source × (length (now map) ≡ cellsOf run) ⌝ }
-    ensures { λ _. ⌜ now (map .exit) ≡ added 255 run (record { source = source; weight = weight } ∷ []) (now (map .entry)) ⌝ }
+    ensures { λ _. ⌜ now (map .exit) ≡ added ceiling run (record { source = source; weight = weight } ∷ []) (now (map .entry)) ⌝ }
 {
     if source.period < run.window {
         add_rows(run, source, weight, map);
@@ -108,7 +110,7 @@ fn add_source(run: Run, source: Source, weight: u8, map: &mut [u8])
 // Adds the sources with low ≤ period < high to the map of a run, one after the other.
 fn add_chosen(run: Run, periods: &[u32], weights: &[u32], low: u32, high: u32, map: &mut [u8])
     requires { ⌜ Addable run (now periods) (now weights) (now map) ⌝ }
-    ensures { λ _. ⌜ now (map .exit) ≡ added 255 run (chosen low high (entriesOf (now (periods .entry)) (now (weights .entry)))) (now (map .entry)) ⌝ }
+    ensures { λ _. ⌜ now (map .exit) ≡ added ceiling run (chosen low high (entriesOf (now (periods .entry)) (now (weights .entry)))) (now (map .entry)) ⌝ }
 {
     let mut place = 0;
     while place < periods.len() {
@@ -143,7 +145,7 @@ fn block_from(run: Run, first: u32, lines: u32) -> Run
 // Adds the sources with period < high to the map of a run, one block of so many lines after the other.
 fn add_blocks(run: Run, periods: &[u32], weights: &[u32], high: u32, lines: u32, map: &mut [u8])
     requires { ⌜ Addable run (now periods) (now weights) (now map) × (1 ≤ lines) ⌝ }
-    ensures { λ _. ⌜ now (map .exit) ≡ added 255 run (chosen 0 high (entriesOf (now (periods .entry)) (now (weights .entry)))) (now (map .entry)) ⌝ }
+    ensures { λ _. ⌜ now (map .exit) ≡ added ceiling run (chosen 0 high (entriesOf (now (periods .entry)) (now (weights .entry)))) (now (map .entry)) ⌝ }
 {
     let mut first = run.first;
     while first <= run.last {
@@ -180,7 +182,7 @@ fn shortest(periods: &[u32]) -> u32
 // Adds all sources to the map of a run: in blocks those with short periods, where the map is long, and in one go the others.
 fn add_all(run: Run, periods: &[u32], weights: &[u32], map: &mut [u8])
     requires { ⌜ Addable run (now periods) (now weights) (now map) ⌝ }
-    ensures { λ _. ⌜ now (map .exit) ≡ added 255 run (entriesOf (now (periods .entry)) (now (weights .entry))) (now (map .entry)) ⌝ }
+    ensures { λ _. ⌜ now (map .exit) ≡ added ceiling run (entriesOf (now (periods .entry)) (now (weights .entry))) (now (map .entry)) ⌝ }
 {
     if LONG < map.len() {
         if shortest(periods) < SHORT {
@@ -192,7 +194,7 @@ fn add_all(run: Run, periods: &[u32], weights: &[u32], map: &mut [u8])
     add_chosen(run, periods, weights, 0, PERIODS, map);
 }
 
-// Public operation. Adds to every cell of a run's map the weights of all listed sources that hit it, up to 255.
+// Public operation. Adds to every cell of a run's map the weights of all listed sources that hit it, up to the ceiling.
 // Refused, in this order: 1, 2, 3 for the run, 10 for lists of unequal length, 4 or 7 for the first source at fault, 9 for a
 // map not of the run's length. All of that is looked at before the first store.
 pub fn add_to_map(run: Run, periods: &[u32], weights: &[u32], map: &mut [u8]) -> Added

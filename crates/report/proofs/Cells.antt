@@ -7,10 +7,10 @@ use mathlib.Core.List.{List, [], _∷_, _++_}
 use lib.ListN.{length, drop, getD, drop-of-length-le}
 use lib.Seq.{drop-cons}
 use borrow.Author.Tests.{eq-eqb, ne-eqb}
-use Rattle.decimal.specs.Promise.{Written}
-use Rattle.text.specs.Form.{line}
+use Rattle.rooms.specs.InnerRooms.{Written}
+use Rattle.words.specs.Line.{line}
 use Rattle.report.specs.Report.{mapWord, cellReport, mapReport, above}
-use Rattle.report.proofs.Writing.{Writing, piece-fits, writing-more, writing-ends}
+use Rattle.rooms.proofs.Writing.{Writing, piece-fits, writing-more, writing-ends}
 
 -- ---- a cell
 

@@ -1,4 +1,3 @@
-pub mod Writing
 pub mod Cells
 pub mod Sources
 pub mod Mapped

@@ -1,44 +1,38 @@
 -- How long a report can be: a line has few numbers, each with few digits, and there are few lines. Assumes nothing.
-use Prim.Native.Nat.{ℕ, suc, _+_, _*_, _≤_, _<_, _^_}
+use Prim.Native.Nat.{ℕ, suc, _+_, _*_, _≤_, _<_}
 use native.Mathlib.Omega.{arith}
 use mathlib.Core.Path.{_≡_, _∙_}
 use mathlib.Core.Bool.{Bool, true, false, cond}
 use mathlib.Core.List.{List, [], _∷_, _++_}
 use lib.Dec.{eqb}
 use lib.ListN.{length, length-append}
-use Rattle.decimal.specs.Digits.{digits}
-use Rattle.decimal.proofs.Laws.{length-le, length-32}
+use Rattle.decimal.specs.Digits.{largest, digits}
+use Rattle.decimal.proofs.Laws.{length-le}
+use Rattle.words.proofs.Writing.{line-long}
 use Rattle.scope.specs.declared.Run.{Run}
-use Rattle.scope.specs.Run.{ValidRun, UpTo, cellsOf}
+use Rattle.rooms.specs.Lists.{UpTo, zeros}
+use Rattle.scope.specs.Run.{ValidRun, ceiling, cellsOf}
+use Rattle.scope.specs.Hit.{hitsFrom}
 use Rattle.sources.specs.Entry.{Entry, entriesOf}
-use Rattle.text.specs.Form.{fields, line, Small, srcWord, runWord, runNumbers}
+use Rattle.words.specs.Line.{fields, line}
+use Rattle.text.specs.Form.{srcWord, runWord, runNumbers}
 use Rattle.map.proofs.Entries.{ValidEntries, valid-entries, added-length, added-within}
-use Rattle.report.specs.Report.{mapWord, endWord, runReport, entryReport, srcReport, cellReport, mapReport, above, endReport, zeros, reportedMap, cellsReport, wholeReport}
-use Rattle.report.specs.Inner.{Reportable}
-use Rattle.report.proofs.Mapped.{zeros-long}
+use Rattle.report.specs.Report.{mapWord, endWord, runReport, entryReport, srcReport, cellReport, mapReport, above, endReport, reportedMap, cellsReport, wholeReport}
+use Rattle.report.specs.Inner.{ValidInput}
+use Rattle.rooms.proofs.Lists.{length-zeros, up-to}
 use Rattle.report.proofs.Sources.{hits-few}
-
--- a line of small numbers: 11 bytes each at most
-fields-long : (numbers : List ℕ) → Small numbers → length (fields numbers) ≤ 1 + 11 * length numbers
-unfolding fields
-fields-long [] s = omega arith
-fields-long (n ∷ numbers) s = omega (arith, fields-long numbers (s .1), length-32 n (s .0), length-append (digits n) (fields numbers))
-
-pub line-long : (word numbers : List ℕ) → Small numbers → length (line word numbers) ≤ length word + (1 + 11 * length numbers)
-unfolding line
-line-long word numbers s = omega (arith, fields-long numbers s, length-append word (fields numbers))
 
 -- ---- the sources
 
-entry-long : (run : Run) (k : ℕ) (e : Entry) → cellsOf run ≤ 65536 → k < 2 ^ 32 → ValidEntries 255 (e ∷ []) → length (entryReport run k e) ≤ 48
+entry-long : (run : Run) (k : ℕ) (e : Entry) → cellsOf run ≤ 65536 → k ≤ largest → ValidEntries ceiling (e ∷ []) → length (entryReport run k e) ≤ 48
 unfolding entryReport
 entry-long run k e few place v =
     let own = v .0 in
     let hits = hits-few run (e .source) in
     let s = own .source in
-    line-long srcWord _ (place, (omega (arith, s .fits), (omega (arith, own .fits), (omega arith, tt))))
+    line-long srcWord _ (up-to (k ∷ e .source .period ∷ e .weight ∷ length (hitsFrom run (e .source) 0) ∷ []) (place, (omega (arith, s .fits), (omega (arith, own .fits), (omega arith, tt)))))
 
-sources-long : (run : Run) (k : ℕ) (entries : List Entry) → cellsOf run ≤ 65536 → k + length entries ≤ 65536 → ValidEntries 255 entries
+sources-long : (run : Run) (k : ℕ) (entries : List Entry) → cellsOf run ≤ 65536 → k + length entries ≤ 65536 → ValidEntries ceiling entries
     → length (srcReport run k entries) ≤ 48 * length entries
 unfolding srcReport
 sources-long run k [] few place v = omega arith
@@ -52,7 +46,7 @@ sources-long run k (e ∷ entries) few place v =
 
 -- ---- the cells
 
-cell-long : (x value : ℕ) → x < 65536 → value ≤ 255 → length (cellReport x value) ≤ 14
+cell-long : (x value : ℕ) → x < 65536 → value ≤ ceiling → length (cellReport x value) ≤ 14
 unfolding cellReport line fields
 cell-long x value h v = go (eqb value 0)
   where
@@ -67,7 +61,7 @@ cell-long x value h v = go (eqb value 0)
           length-append (digits value) (10 ∷ []),
         )
 
-cells-long : (x : ℕ) (cells : List ℕ) → x + length cells ≤ 65536 → UpTo 255 cells → length (mapReport x cells) ≤ 14 * length cells
+cells-long : (x : ℕ) (cells : List ℕ) → x + length cells ≤ 65536 → UpTo ceiling cells → length (mapReport x cells) ≤ 14 * length cells
 unfolding mapReport
 cells-long x [] h w = omega arith
 cells-long x (v ∷ cells) h w =
@@ -91,19 +85,20 @@ above-few (v ∷ cells) = go (eqb v 0) (above-few cells)
 
 map-long : (run : Run) (entries : List Entry) → length (reportedMap run entries) ≡ cellsOf run
 unfolding reportedMap
-map-long run entries = added-length 255 run entries (zeros (cellsOf run)) ∙ zeros-long (cellsOf run)
+map-long run entries = added-length ceiling run entries (zeros (cellsOf run)) ∙ length-zeros (cellsOf run)
 
-map-within : (run : Run) (entries : List Entry) → UpTo 255 (reportedMap run entries)
+map-within : (run : Run) (entries : List Entry) → UpTo ceiling (reportedMap run entries)
 unfolding reportedMap
-map-within run entries = added-within 255 run entries (zeros (cellsOf run))
+map-within run entries = added-within ceiling run entries (zeros (cellsOf run))
 
 run-long : {run : Run} → ValidRun run → cellsOf run ≤ 65536 → length (runReport run) ≤ 59
 unfolding runReport
 run-long {run} v few =
     line-long runWord (runNumbers run ++ (cellsOf run ∷ []))
-    (omega (arith, v .wide), (omega (arith, v .fits), (omega (arith, v .ordered, v .ends), (omega (arith, v .ends), (omega arith, tt)))))
+    (up-to (runNumbers run ++ (cellsOf run ∷ []))
+    (omega (arith, v .wide), (omega (arith, v .fits), (omega (arith, v .ordered, v .ends), (omega (arith, v .ends), (omega arith, tt))))))
 
-pub whole-long : {run : Run} {periods weights : List ℕ} → Reportable run periods weights → length (entriesOf periods weights) ≤ 64
+pub whole-long : {run : Run} {periods weights : List ℕ} → ValidInput run periods weights → length (entriesOf periods weights) ≤ 64
     → length (wholeReport run (entriesOf periods weights)) ≤ 920650
 unfolding wholeReport cellsReport endReport
 whole-long {run} {periods} {weights} a few =
@@ -111,10 +106,10 @@ whole-long {run} {periods} {weights} a few =
     let m = reportedMap run es in
     let cells = map-long run es in
     let r = run-long (a .valid) (a .few) in
-    let s = sources-long run 1 es (a .few) (omega arith) (valid-entries 255 1 es (record { is = a .sound })) in
+    let s = sources-long run 1 es (a .few) (omega arith) (valid-entries ceiling 1 es (record { is = a .sound })) in
     let l = cells-long 0 m (omega (arith, a .few)) (map-within run es) in
     let n = above-few m in
-    let e = line-long endWord (above m ∷ []) (omega (arith, a .few), tt) in
+    let e = line-long endWord (above m ∷ []) (up-to (above m ∷ []) (omega (arith, a .few), tt)) in
     let whole = length-append (runReport run) (srcReport run 1 es ++ (mapReport 0 m ++ line endWord (above m ∷ []))) in
     let rest = length-append (srcReport run 1 es) (mapReport 0 m ++ line endWord (above m ∷ [])) in
     let last = length-append (mapReport 0 m) (line endWord (above m ∷ [])) in

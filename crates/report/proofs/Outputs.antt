@@ -4,10 +4,12 @@ use native.Mathlib.Omega.{arith}
 use native.Mathlib.Nat.{zero-add}
 use mathlib.Core.Path.{_≡_, refl, sym, ap, _∙_, subst}
 use mathlib.Core.List.{List, [], _∷_, _++_}
-use lib.ListN.{length, take, drop, replicate, length-take, length-append}
+use lib.ListN.{length, take, drop, length-take}
 use lib.Seq.{length-take-le}
 use borrow.Author.Tests.{ltb-false}
-use Rattle.decimal.specs.Promise.{Written}
+use Rattle.rooms.specs.Lists.{zeros}
+use Rattle.rooms.specs.InnerRooms.{Written}
+use Rattle.rooms.proofs.Lists.{padded-within, padded-is}
 use Rattle.scope.specs.declared.Run.{Run}
 use Rattle.scope.specs.Run.{cellsOf}
 use Rattle.sources.specs.Entry.{entriesOf}
@@ -16,43 +18,41 @@ use Rattle.scope.proofs.Judged.{Passes}
 use Rattle.scope.proofs.Limits.{passes-when, passes-first, passes-then, valid-run}
 use Rattle.sources.specs.Lists.{periodsOf, weightsOf}
 use Rattle.sources.proofs.Entries.{periods-length, weights-length}
-use Rattle.text.specs.Form.{line, Content, Spells}
-use Rattle.text.specs.Promise.{saysText, replyTo, handed, padded, textTests, TextPromise, sourcesOf}
+use Rattle.words.specs.Line.{line}
+use Rattle.text.specs.Form.{Content, Spells}
+use Rattle.text.specs.Promise.{saysText, replyTo, handed, textTests, TextPromise, sourcesOf}
 use Rattle.text.specs.declared.Input.{Input}
 use Rattle.text.specs.declared.Answer.the-variants.{Read, Refused}
 use Rattle.text.proofs.Unique.{sources-handed, accepted}
 use Rattle.report.specs.declared.Output.{Output}
-use Rattle.report.specs.Report.{refusedWord, wholeReport, printed, reportOf, blank, Prints, ReportPromise}
-use Rattle.report.specs.Inner.{Reportable}
-use Rattle.report.proofs.Mapped.{zeros-long}
+use Rattle.report.specs.Report.{refusedWord, wholeReport, printed, reportOf}
+use Rattle.report.specs.Promise.{Prints, ReportPromise}
+use Rattle.report.specs.Inner.{ValidInput}
 
 -- ---- the room
 
-pub blank-long : length blank ≡ 921600
-unfolding blank
-blank-long = zeros-long 921600
-
 -- what was written into the blank room is the output
-pub prints : {room bytes : List ℕ} {next : ℕ} {after : List ℕ} → room ≡ blank → Written room 0 bytes next after → Prints bytes (record { length = next; bytes = after })
+pub prints : {room bytes : List ℕ} {next : ℕ} {after : List ℕ} → room ≡ zeros 921600 → Written room 0 bytes next after → Prints bytes (record { length = next; bytes = after })
 prints {room} {bytes} {next} {after} e w =
     let count : next ≡ length bytes = w .ends ∙ zero-add (length bytes) in
-    record { counts = count; begins = w .kept ∙ ap (λ k. bytes ++ drop k room) count ∙ ap (λ b. bytes ++ drop (length bytes) b) e }
+    record {
+      counts = count;
+      begins = w .kept ∙ ap (λ k. bytes ++ drop k room) count ∙ ap (λ b. bytes ++ drop (length bytes) b) e ∙ sym (padded-is 921600 bytes);
+    }
 
 -- ---- the text
 
 module _ {text : List ℕ} {input : Input} (p : TextPromise text input) where
-  -- the lists have places for as many sources as there are
+  -- the lists have room for as many sources as there are
   pub periods-within : input .count ≤ length (input .periods)
-  unfolding padded
   periods-within =
       let es = handed (p .content) in
-      omega (arith, ap length (p .periods), length-append (periodsOf es) (replicate (64 - length (periodsOf es)) 0), periods-length es, p .counts)
+      omega (arith, ap length (p .periods), padded-within 64 (periodsOf es), periods-length es, p .counts)
 
   pub weights-within : input .count ≤ length (input .weights)
-  unfolding padded
   weights-within =
       let es = handed (p .content) in
-      omega (arith, ap length (p .weights), length-append (weightsOf es) (replicate (64 - length (weightsOf es)) 0), weights-length es, p .counts)
+      omega (arith, ap length (p .weights), padded-within 64 (weightsOf es), weights-length es, p .counts)
 
   module _ {run : Run} (e : input .answer ≡ Read run) where
     -- what the text says
@@ -69,14 +69,14 @@ module _ {text : List ℕ} {input : Input} (p : TextPromise text input) where
         let few = ltb-false 64 (length (sourcesOf input)) (passes-when (passes-then (passes-first (passes-first (spells .1))))) in
         omega (arith, length-take (input .count - 0) (input .periods), p .counts, ap length (sources-handed text input p))
 
-    pub accepts : Reportable run (take (input .count - 0) (input .periods)) (take (input .count - 0) (input .weights))
+    pub accepts : ValidInput run (take (input .count - 0) (input .periods)) (take (input .count - 0) (input .weights))
     unfolding textTests
     accepts =
         let t = spells .1 in
         let all : input .count - 0 ≡ input .count = omega arith in
         rw all
         (record {
-          valid = valid-run (passes-first (passes-first (passes-first t))) (omega (arith, spells .0 .runSmall .1 .0));
+          valid = valid-run (passes-first (passes-first (passes-first t))) (omega (arith, spells .0 .runSmall 1));
           few = ltb-false 65536 (cellsOf run) (passes-when (passes-then (passes-first t)));
           equal = length-take-le (input .count) (input .periods) periods-within ∙ sym (length-take-le (input .count) (input .weights) weights-within);
           sound = passes-then t .is;

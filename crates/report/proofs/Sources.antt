@@ -6,11 +6,11 @@ use mathlib.Core.Path.{_≡_, sym, _∙_, subst}
 use mathlib.Core.List.{List, [], _∷_, _++_}
 use lib.ListN.{length, drop, getD, drop-of-length-le}
 use borrow.Author.Tests.{ne-eqb, lt-leb}
-use Rattle.decimal.specs.Promise.{Written}
+use Rattle.rooms.specs.InnerRooms.{Written}
 use Rattle.scope.specs.declared.Run.{Run}
 use Rattle.scope.specs.declared.RunCell.{RunCell}
 use Rattle.scope.specs.declared.Source.{Source}
-use Rattle.scope.specs.Run.{ValidRun, ValidSource, cellsOf}
+use Rattle.scope.specs.Run.{ValidRun, ValidSource, ceiling, cellsOf}
 use Rattle.scope.specs.Hit.{hitsFrom}
 use Rattle.sources.specs.Entry.{Entry, entriesOf}
 use Rattle.scope.proofs.Judged.{Passes, sound, both, grant-reply}
@@ -23,8 +23,8 @@ use Rattle.hits.proofs.Unique.{says-listing-injective}
 use Rattle.sources.proofs.Entries.{entry, entries-from}
 use Rattle.map.proofs.Entries.{ValidEntries, valid-entries}
 use Rattle.report.specs.Report.{entryReport, srcReport}
-use Rattle.report.specs.Inner.{Reportable}
-use Rattle.report.proofs.Writing.{Writing, piece-fits, writing-more, writing-ends, writing-starts}
+use Rattle.report.specs.Inner.{ValidInput}
+use Rattle.rooms.proofs.Writing.{Writing, piece-fits, writing-more, writing-ends, writing-starts}
 
 -- ---- how many hits a source has
 
@@ -56,12 +56,12 @@ pub record SrcLines (before : List ℕ) (at : ℕ) (run : Run) (periods weights 
   pub writing :
       Writing before at (srcReport run 1 (entriesOf periods weights)) (srcReport run (suc k) (entriesOf (drop k periods) (drop k weights))) next room
   pub equal : length periods ≡ length weights
-  pub valid : ValidEntries 255 (entriesOf (drop k periods) (drop k weights))
+  pub valid : ValidEntries ceiling (entriesOf (drop k periods) (drop k weights))
 
-pub src-starts : {room : List ℕ} {at : ℕ} {run : Run} {periods weights : List ℕ} → Reportable run periods weights
+pub src-starts : {room : List ℕ} {at : ℕ} {run : Run} {periods weights : List ℕ} → ValidInput run periods weights
     → at + length (srcReport run 1 (entriesOf periods weights)) ≤ length room → SrcLines room at run periods weights 0 at room
 src-starts {room} {at} {run} {periods} {weights} a h =
-    record { writing = writing-starts room at _ h; equal = a .equal; valid = valid-entries 255 1 (entriesOf periods weights) (record { is = a .sound }) }
+    record { writing = writing-starts room at _ h; equal = a .equal; valid = valid-entries ceiling 1 (entriesOf periods weights) (record { is = a .sound }) }
 
 module _ {before : List ℕ} {at : ℕ} {run : Run} {periods weights : List ℕ} {k next : ℕ} {room : List ℕ}
     (w : SrcLines before at run periods weights k next room) (h : k < length periods) where
@@ -76,8 +76,8 @@ module _ {before : List ℕ} {at : ℕ} {run : Run} {periods weights : List ℕ}
   unfolding srcReport
   from = rw (split, add-one k)
 
-  here-valid : ValidEntries 255 (here ∷ entriesOf (drop (k + 1) periods) (drop (k + 1) weights))
-  here-valid = subst (ValidEntries 255) split (w .valid)
+  here-valid : ValidEntries ceiling (here ∷ entriesOf (drop (k + 1) periods) (drop (k + 1) weights))
+  here-valid = subst (ValidEntries ceiling) split (w .valid)
 
   pub src-valid : ValidSource (record { period = getD periods k 0 })
   src-valid = here-valid .0 .source

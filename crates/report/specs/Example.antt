@@ -1,7 +1,8 @@
 -- Document 01, "The list program": its example, line by line.
 use Prim.Native.Nat.{ℕ}
 use mathlib.Core.List.{List, [], _∷_, _++_}
-use Rattle.text.specs.Form.{line, runWord, srcWord}
+use Rattle.words.specs.Line.{line}
+use Rattle.text.specs.Form.{runWord, srcWord}
 use Rattle.report.specs.Report.{mapWord, endWord}
 
 -- "The input".

@@ -5,18 +5,13 @@ use mathlib.Core.List.{List}
 use mathlib.Core.Option.{none}
 use lib.ListN.{length}
 use Rattle.scope.specs.declared.Run.{Run}
-use Rattle.scope.specs.Run.{ValidRun, cellsOf}
+use Rattle.scope.specs.Run.{ValidRun, ceiling, cellsOf}
 use Rattle.scope.specs.Refusal.{complaint}
-use Rattle.report.specs.Report.{zeros}
 use Rattle.sources.specs.Entry.{entriesOf, listTests}
 
 -- A run and lists of sources that a text may hold: nothing of them is refused.
-pub record Reportable (run : Run) (periods weights : List ℕ) : Type 0 where
+pub record ValidInput (run : Run) (periods weights : List ℕ) : Type 0 where
   pub valid : ValidRun run
   pub few : cellsOf run ≤ 65536
   pub equal : length periods ≡ length weights
-  pub sound : complaint (listTests 255 1 (entriesOf periods weights)) ≡ none
-
--- Cells for the longest run of a text, with nothing in them.
-unfoldable pub cleared : List ℕ
-cleared = zeros 65536
+  pub sound : complaint (listTests ceiling 1 (entriesOf periods weights)) ≡ none

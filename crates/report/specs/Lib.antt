@@ -1,3 +1,4 @@
 pub mod Report
+pub mod Promise
 pub mod Inner
 pub mod Example

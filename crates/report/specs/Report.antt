@@ -1,20 +1,20 @@
 -- Document 01, "The list program": what it prints.
 use Prim.Native.Nat.{ℕ, suc, _+_}
-use mathlib.Core.Path.{_≡_}
 use mathlib.Core.Bool.{cond}
 use mathlib.Core.List.{List, [], _∷_, _++_}
 use mathlib.Core.Option.{Option}
 use lib.Dec.{eqb}
-use lib.ListN.{length, drop, replicate}
+use lib.ListN.{length}
+use Rattle.rooms.specs.Lists.{zeros}
 use Rattle.scope.specs.declared.Run.{Run}
-use Rattle.scope.specs.Run.{cellsOf}
+use Rattle.scope.specs.Run.{ceiling, cellsOf}
 use Rattle.scope.specs.Hit.{hitsFrom}
 use Rattle.scope.specs.Reply.{Said, refused, answered}
 use Rattle.sources.specs.Entry.{Entry}
-use Rattle.text.specs.Form.{line, runWord, srcWord, runNumbers, Content}
-use Rattle.text.specs.Promise.{Reads, replyTo, handed}
+use Rattle.words.specs.Line.{line}
+use Rattle.text.specs.Form.{runWord, srcWord, runNumbers, Content}
+use Rattle.text.specs.Promise.{replyTo, handed}
 use Rattle.map.specs.Promise.{added}
-use Rattle.report.specs.declared.Output.{Output}
 
 -- The word `map`.
 abbrev pub mapWord : List ℕ
@@ -59,13 +59,9 @@ above (value ∷ cells) = cond (eqb value 0) 0 1 + above cells
 unfoldable pub endReport : List ℕ → List ℕ
 endReport cells = line endWord (above cells ∷ [])
 
--- So many cells, or bytes, with nothing in them.
-unfoldable pub zeros : ℕ → List ℕ
-zeros n = replicate n 0
-
 -- "from a cleared map": the map of the run and its sources.
 unfoldable pub reportedMap : Run → List Entry → List ℕ
-reportedMap run entries = added 255 run entries (zeros (cellsOf run))
+reportedMap run entries = added ceiling run entries (zeros (cellsOf run))
 
 -- Its lines, and the line that counts them.
 unfoldable pub cellsReport : Run → List Entry → List ℕ
@@ -83,24 +79,3 @@ printed (answered run) entries = wholeReport run entries
 -- What is printed of a text, by what it says.
 unfoldable pub reportOf : Option Content → List ℕ
 reportOf content = printed (replyTo content) (handed content)
-
--- A room that the longest report fits into, with nothing in it.
-unfoldable pub blank : List ℕ
-blank = zeros 921600
-
--- The room begins with these bytes, and the rest of it is 0; their number is told.
-pub record Prints (bytes : List ℕ) (output : Output) : Type 0 where
-  pub counts : output .length ≡ length bytes
-  pub begins : output .bytes ≡ bytes ++ drop (length bytes) blank
-
--- The promise of the report: the output is what is printed of the text.
-pub record ReportPromise (text : List ℕ) (output : Output) : Type 0 where
-  pub content : Option Content
-  pub reads : Reads text content
-  pub says : Prints (reportOf content) output
-
--- These bytes are what is printed of the text.
-pub record PrintedOf (text bytes : List ℕ) : Type 0 where
-  pub content : Option Content
-  pub reads : Reads text content
-  pub is : bytes ≡ reportOf content

@@ -9,13 +9,15 @@ ghost use Prim.Native.Nat.{_+_, _≤_};
 ghost use mathlib.Core.Path.{_≡_};
 ghost use mathlib.Core.List.{[], _∷_, _++_};
 ghost use lib.ListN.{length};
-ghost use Rattle.decimal.specs.Promise.{Written};
-ghost use Rattle.text.specs.Form.{line};
+ghost use Rattle.rooms.specs.Lists.{zeros};
+ghost use Rattle.rooms.specs.InnerRooms.{Written};
+ghost use Rattle.words.specs.Line.{line};
 ghost use Rattle.scope.specs.Run.{ValidRun, ValidSource, cellsOf};
 ghost use Rattle.scope.specs.Hit.{hitsFrom};
 ghost use Rattle.sources.specs.Entry.{entriesOf};
-ghost use Rattle.report.specs.Report.{zeros, blank, runReport, entryReport, srcReport, cellReport, mapReport, above, endReport, reportedMap, cellsReport, wholeReport, refusedWord, Prints, ReportPromise};
-ghost use Rattle.report.specs.Inner.{Reportable, cleared};
+ghost use Rattle.report.specs.Report.{runReport, entryReport, srcReport, cellReport, mapReport, above, endReport, reportedMap, cellsReport, wholeReport, refusedWord};
+ghost use Rattle.report.specs.Promise.{Prints, ReportPromise};
+ghost use Rattle.report.specs.Inner.{ValidInput};
 
 // Room for the longest report.
 const ROOM: usize = 921600;
@@ -30,46 +32,9 @@ pub struct Output {
 
 // A room for the longest report, with nothing in it.
 fn blank() -> [u8; ROOM]
-    ensures { λ r. ⌜ r ≡ blank ⌝ }
+    ensures { λ r. ⌜ r ≡ zeros 921600 ⌝ }
 {
     [0; ROOM]
-}
-
-// Writes bytes into the room at `at` and answers the place after them.
-fn write_bytes(room: &mut [u8], at: usize, bytes: &[u8]) -> usize
-    requires { ⌜ at + length (now bytes) ≤ length (now room) ⌝ }
-    ensures { λ r. ⌜ Written (now (room .entry)) at (now (bytes .entry)) r (now (room .exit)) ⌝ }
-{
-    let mut next = at;
-    let mut k = 0;
-    while k < bytes.len() {
-        room[next] = bytes[k];
-        next += 1;
-        k += 1;
-    }
-    next
-}
-
-// Writes a line, a word and its numbers, into the room at `at` and answers the place after it.
-fn write_line(room: &mut [u8], at: usize, word: &[u8], numbers: &[u64]) -> usize
-    requires { ⌜ at + length (line (now word) (now numbers)) ≤ length (now room) ⌝ }
-    ensures { λ r. ⌜ Written (now (room .entry)) at (line (now (word .entry)) (now (numbers .entry))) r (now (room .exit)) ⌝ }
-{
-    let mut next = write_bytes(room, at, word);
-    let mut k = 0;
-    while k < numbers.len() {
-        let start = write_bytes(room, next, b" ");
-        next = decimal::write_number(room, start, numbers[k]);
-        k += 1;
-    }
-    write_bytes(room, next, b"\n")
-}
-
-// The same number in 64 bits.
-fn wide(x: u8) -> u64
-    ensures { λ r. ⌜ r ≡ x ⌝ }
-{
-    x as u64
 }
 
 // Writes the line of a cell above 0; for a cell of 0 there is none.
@@ -80,8 +45,8 @@ fn write_cell(room: &mut [u8], at: usize, cell: RunCell, value: u8) -> usize
     if value == 0 {
         return at;
     }
-    let numbers = [cell.0, wide(value)];
-    write_line(room, at, b"map", &numbers)
+    let numbers = [cell.0, rooms::wide(value)];
+    words::write_line(room, at, b"map", &numbers)
 }
 
 // Writes the lines of all cells above 0.
@@ -120,12 +85,12 @@ fn write_cells(room: &mut [u8], at: usize, map: &[u8]) -> usize
 {
     let next = write_map(room, at, map);
     let numbers = [count_above(map)];
-    write_line(room, next, b"end", &numbers)
+    words::write_line(room, next, b"end", &numbers)
 }
 
 // Cells for the longest run that a text may have, with nothing in them.
 fn cleared() -> [u8; CELLS]
-    ensures { λ r. ⌜ r ≡ cleared ⌝ }
+    ensures { λ r. ⌜ r ≡ zeros 65536 ⌝ }
 {
     [0; CELLS]
 }
@@ -168,12 +133,12 @@ fn write_source(
         weight as u64,
         count_hits(run, source),
     ];
-    write_line(room, at, b"src", &numbers)
+    words::write_line(room, at, b"src", &numbers)
 }
 
 // Writes the lines of all sources.
 fn write_sources(room: &mut [u8], at: usize, run: Run, periods: &[u32], weights: &[u32]) -> usize
-    requires { ⌜ Reportable run (now periods) (now weights) ⌝ }
+    requires { ⌜ ValidInput run (now periods) (now weights) ⌝ }
     requires { ⌜ at + length (srcReport run 1 (entriesOf (now periods) (now weights))) ≤ length (now room) ⌝ }
     ensures { λ r. ⌜ Written (now (room .entry)) at (srcReport run 1 (entriesOf (now (periods .entry)) (now (weights .entry)))) r (now (room .exit)) ⌝ }
 {
@@ -206,7 +171,7 @@ fn write_run(room: &mut [u8], at: usize, run: Run) -> usize
         run.last as u64,
         scope::cells(run),
     ];
-    write_line(room, at, b"run", &numbers)
+    words::write_line(room, at, b"run", &numbers)
 }
 
 // Works the map of a run out in cleared cells, as many as the run has, and writes it.
@@ -218,7 +183,7 @@ fn write_map_of(
     weights: &[u32],
     map: &mut [u8],
 ) -> usize
-    requires { ⌜ Reportable run (now periods) (now weights) ⌝ }
+    requires { ⌜ ValidInput run (now periods) (now weights) ⌝ }
     requires { ⌜ now map ≡ zeros (cellsOf run) ⌝ }
     requires { ⌜ at + length (cellsReport run (entriesOf (now periods) (now weights))) ≤ length (now room) ⌝ }
     ensures { λ r. ⌜ Written (now (room .entry)) at (cellsReport run (entriesOf (now (periods .entry)) (now (weights .entry)))) r (now (room .exit)) ⌝ }
@@ -230,7 +195,7 @@ fn write_map_of(
 
 // Writes the whole report on a run and its sources.
 fn write_report(room: &mut [u8], run: Run, periods: &[u32], weights: &[u32]) -> usize
-    requires { ⌜ Reportable run (now periods) (now weights) ⌝ }
+    requires { ⌜ ValidInput run (now periods) (now weights) ⌝ }
     requires { ⌜ 0 + length (wholeReport run (entriesOf (now periods) (now weights))) ≤ length (now room) ⌝ }
     ensures { λ r. ⌜ Written (now (room .entry)) 0 (wholeReport run (entriesOf (now (periods .entry)) (now (weights .entry)))) r (now (room .exit)) ⌝ }
 {
@@ -250,7 +215,7 @@ fn write_report(room: &mut [u8], run: Run, periods: &[u32], weights: &[u32]) -> 
 
 // The output that is a report on a run and its sources.
 fn report_run(run: Run, periods: &[u32], weights: &[u32]) -> Output
-    requires { ⌜ Reportable run (now periods) (now weights) × (length (now periods) ≤ 64) ⌝ }
+    requires { ⌜ ValidInput run (now periods) (now weights) × (length (now periods) ≤ 64) ⌝ }
     ensures { λ r. ⌜ Prints (wholeReport run (entriesOf (now (periods .entry)) (now (weights .entry)))) r ⌝ }
 {
     let mut bytes = blank();
@@ -263,8 +228,8 @@ fn report_refusal(number: u8) -> Output
     ensures { λ r. ⌜ Prints (line refusedWord (number ∷ [])) r ⌝ }
 {
     let mut bytes = blank();
-    let numbers = [wide(number)];
-    let length = write_line(&mut bytes, 0, b"refused", &numbers);
+    let numbers = [rooms::wide(number)];
+    let length = words::write_line(&mut bytes, 0, b"refused", &numbers);
     Output { length, bytes }
 }
 

@@ -8,117 +8,124 @@ use native.Mathlib.Omega.{arith}
 use lib.ListN.{length, take, drop, length-append, length-take, length-drop}
 use lib.Seq.{take-take, take-all, take-length, length-take-le, take-nil, take-append-add, drop-drop}
 use borrow.Rule.Slice.PartMut.{putMid, midOf, mid-len}
-use Rattle.blocks.specs.Block.{filled, blockOf, contents}
-use Rattle.saved.specs.File.{firstJoined, cellBlocks, blocksFor, fileLength, blockAt, bytesIn}
+use Rattle.scope.specs.declared.Run.{Run}
+use Rattle.scope.specs.Run.{cellsOf}
+use Rattle.fileblocks.specs.FileBlock.{fileBlockBytes, contentBytes, filled, fileBlockOf, contents}
+use Rattle.saved.specs.File.{firstJoined, laterFileBlocks, fileBlocksFor, fileLength, bytesFor, fileBlockAt, bytesIn}
 use Rattle.saved.proofs.Lists.{take-take-min, take-drop-take}
-use Rattle.blocks.proofs.Block.{length-block}
-use Rattle.blocks.proofs.Writing.{Written, written-none, written-part, written-length, written-all}
+use Rattle.fileblocks.proofs.FileBlock.{length-fileBlockOf}
+use Rattle.fileblocks.proofs.Writing.{Written, written-none, written-part, written-length, written-all}
+
+-- a cell is one byte
+pub cell-bytes : (run : Run) → bytesFor run ≡ cellsOf run
+unfolding bytesFor
+cell-bytes run = refl
 
 -- another block is begun exactly while cells are left
-pub more-blocks : {size k : ℕ} → 504 * k < size → k < blocksFor size
-unfolding blocksFor
-more-blocks h = omega arith
+pub more-file-blocks : {size k : ℕ} → contentBytes * k < size → k < fileBlocksFor size
+unfolding fileBlocksFor
+more-file-blocks h = omega arith
 
-pub all-blocks : {size k : ℕ} → k ≤ blocksFor size → size ≤ 504 * k → k ≡ blocksFor size
-unfolding blocksFor
-all-blocks h l = omega arith
+pub all-file-blocks : {size k : ℕ} → k ≤ fileBlocksFor size → size ≤ contentBytes * k → k ≡ fileBlocksFor size
+unfolding fileBlocksFor
+all-file-blocks h l = omega arith
 
-pub begun-block : {size k : ℕ} → k < blocksFor size → 504 * k < size
-unfolding blocksFor
-begun-block h = omega arith
+pub begun-file-block : {size k : ℕ} → k < fileBlocksFor size → contentBytes * k < size
+unfolding fileBlocksFor
+begun-file-block h = omega arith
 
-pub enough-blocks : (size : ℕ) → size ≤ 504 * blocksFor size
-unfolding blocksFor
-enough-blocks size = omega arith
+pub enough-file-blocks : (size : ℕ) → size ≤ contentBytes * fileBlocksFor size
+unfolding fileBlocksFor
+enough-file-blocks size = omega arith
 
 -- a block holds no more than 504 bytes of those that it is given
-pub block-front : (number : ℕ) (l : List ℕ) → blockOf number (take 504 l) ≡ blockOf number l
-unfolding blockOf filled
-block-front number l =
-    let size : 504 - length (take 504 l) ≡ 504 - length l = simp length-take (omega arith) in
-    rw (take-take 504 504 l (le-refl 504), size)
+pub file-block-front : (number : ℕ) (l : List ℕ) → fileBlockOf number (take contentBytes l) ≡ fileBlockOf number l
+unfolding fileBlockOf filled
+file-block-front number l =
+    let size : contentBytes - length (take contentBytes l) ≡ contentBytes - length l = simp length-take (omega arith) in
+    rw (take-take contentBytes contentBytes l (le-refl contentBytes), size)
 
-block-take : (number : ℕ) (l : List ℕ) (m : ℕ) → m ≡ min 504 (length l) → blockOf number (take m l) ≡ blockOf number l
-block-take number l m e =
-    let front : take m l ≡ take 504 l = ap (λ k. take k l) e ∙ sym (take-take-min 504 (length l) l) ∙ ap (take 504) (take-length l) in
-    ap (blockOf number) front ∙ block-front number l
+file-block-take : (number : ℕ) (l : List ℕ) (m : ℕ) → m ≡ min contentBytes (length l) → fileBlockOf number (take m l) ≡ fileBlockOf number l
+file-block-take number l m e =
+    let front : take m l ≡ take contentBytes l = ap (λ k. take k l) e ∙ sym (take-take-min contentBytes (length l) l) ∙ ap (take contentBytes) (take-length l) in
+    ap (fileBlockOf number) front ∙ file-block-front number l
 
-pub length-cellBlocks : (map : List ℕ) (n : ℕ) → length (cellBlocks map n) ≡ 512 * n
-unfolding cellBlocks firstJoined
-length-cellBlocks map zero = refl
-length-cellBlocks map (suc k) =
-    let e = length-cellBlocks map k in
-    let b = length-block (suc k) (drop (504 * k) map) in
+pub length-laterFileBlocks : (map : List ℕ) (n : ℕ) → length (laterFileBlocks map n) ≡ fileBlockBytes * n
+unfolding laterFileBlocks firstJoined
+length-laterFileBlocks map zero = refl
+length-laterFileBlocks map (suc k) =
+    let e = length-laterFileBlocks map k in
+    let b = length-fileBlockOf (suc k) (drop (contentBytes * k) map) in
     simp length-append (omega arith)
 
 -- `now` is the room `before`, written with the first k blocks of a map
 pub record CellsWritten (map before now : List ℕ) (k : ℕ) : Type 0 where
   pub few : length map < 2 ^ 37
-  pub room : length before ≡ 512 * blocksFor (length map)
-  pub within : k ≤ blocksFor (length map)
-  pub written : Written before now (cellBlocks map k) (512 * k)
+  pub room : length before ≡ fileBlockBytes * fileBlocksFor (length map)
+  pub within : k ≤ fileBlocksFor (length map)
+  pub written : Written before now (laterFileBlocks map k) (fileBlockBytes * k)
 
-pub cells-none : {map before : List ℕ} → length map < 2 ^ 37 → length before ≡ 512 * blocksFor (length map) → CellsWritten map before before 0
-unfolding cellBlocks firstJoined
+pub cells-none : {map before : List ℕ} → length map < 2 ^ 37 → length before ≡ fileBlockBytes * fileBlocksFor (length map) → CellsWritten map before before 0
+unfolding laterFileBlocks firstJoined
 cells-none h e = record { few = h; room = e; within = omega arith; written = written-none _ }
 
-pub cells-room : {map before now : List ℕ} {k : ℕ} → CellsWritten map before now k → 504 * k < length map → 512 * k + 512 ≤ length now
+pub cells-room : {map before now : List ℕ} {k : ℕ} → CellsWritten map before now k → contentBytes * k < length map → fileBlockBytes * k + fileBlockBytes ≤ length now
 cells-room s h =
     let l = written-length (s .written) in
-    let b = more-blocks h in
+    let b = more-file-blocks h in
     let r = s .room in
     omega arith
 
-pub cells-more : {map before now part : List ℕ} {k end : ℕ} → CellsWritten map before now k → 504 * k < length map → end ≡ min (504 * k + 504) (length map) → part ≡ blockOf (k + 1) (take (end - 504 * k) (drop (504 * k) map)) → CellsWritten map before (putMid (512 * k) (512 * k + 512 - 512 * k) now part) (k + 1)
-unfolding cellBlocks firstJoined
+pub cells-more : {map before now part : List ℕ} {k end : ℕ} → CellsWritten map before now k → contentBytes * k < length map → end ≡ min (contentBytes * k + contentBytes) (length map) → part ≡ fileBlockOf (k + 1) (take (end - contentBytes * k) (drop (contentBytes * k) map)) → CellsWritten map before (putMid (fileBlockBytes * k) (fileBlockBytes * k + fileBlockBytes - fileBlockBytes * k) now part) (k + 1)
+unfolding laterFileBlocks firstJoined
 cells-more {map} {before} {now} {part} {k} {end} s h e p =
     let l = written-length (s .written) in
     let r = cells-room s h in
-    let size : end - 504 * k ≡ min 504 (length (drop (504 * k) map)) = simp length-drop (omega arith) in
-    let block : part ≡ blockOf (suc k) (drop (504 * k) map) = p ∙ ap (λ n. blockOf n (take (end - 504 * k) (drop (504 * k) map))) (add-one k) ∙ block-take (suc k) (drop (504 * k) map) (end - 504 * k) size in
-    let many : length part ≡ 512 * k + 512 - 512 * k = ap length block ∙ length-block (suc k) (drop (504 * k) map) ∙ omega arith in
-    let next : 512 * (k + 1) ≡ 512 * k + 512 = omega arith in
+    let size : end - contentBytes * k ≡ min contentBytes (length (drop (contentBytes * k) map)) = simp length-drop (omega arith) in
+    let block : part ≡ fileBlockOf (suc k) (drop (contentBytes * k) map) = p ∙ ap (λ n. fileBlockOf n (take (end - contentBytes * k) (drop (contentBytes * k) map))) (add-one k) ∙ file-block-take (suc k) (drop (contentBytes * k) map) (end - contentBytes * k) size in
+    let many : length part ≡ fileBlockBytes * k + fileBlockBytes - fileBlockBytes * k = ap length block ∙ length-fileBlockOf (suc k) (drop (contentBytes * k) map) ∙ omega arith in
+    let next : fileBlockBytes * (k + 1) ≡ fileBlockBytes * k + fileBlockBytes = omega arith in
     record {
       few = s .few;
       room = s .room;
-      within = let b = more-blocks h in omega arith;
-      written = rw (next, add-one k, ← block) (written-part (512 * k + 512) part (s .written) (omega arith) (omega arith) many);
+      within = let b = more-file-blocks h in omega arith;
+      written = rw (next, add-one k, ← block) (written-part (fileBlockBytes * k + fileBlockBytes) part (s .written) (omega arith) (omega arith) many);
     }
 
-pub cells-all : {map before now : List ℕ} {k : ℕ} → CellsWritten map before now k → length map ≤ 504 * k → now ≡ cellBlocks map (blocksFor (length map))
+pub cells-all : {map before now : List ℕ} {k : ℕ} → CellsWritten map before now k → length map ≤ contentBytes * k → now ≡ laterFileBlocks map (fileBlocksFor (length map))
 cells-all {map} {before} {now} {k} s h =
-    let all = all-blocks (s .within) h in
+    let all = all-file-blocks (s .within) h in
     let r = s .room in
-    written-all (s .written) (ap (λ n. 512 * n) all ∙ sym r) ∙ ap (cellBlocks map) all
+    written-all (s .written) (ap (λ n. fileBlockBytes * n) all ∙ sym r) ∙ ap (laterFileBlocks map) all
 
 -- the cells of block k + 1 in a map: from 504·k to `end`
 record Turn (k all end : ℕ) : Type 0 where
-  start : min (504 * k) all ≡ 504 * k
-  after : 504 * k ≤ end
+  start : min (contentBytes * k) all ≡ contentBytes * k
+  after : contentBytes * k ≤ end
   inside : end ≤ all
-  short : end ≤ 504 * k + 504
-  size : end - 504 * k ≡ min (all - 504 * k) 504
-  next : min (504 * (k + 1)) all ≡ end
+  short : end ≤ contentBytes * k + contentBytes
+  size : end - contentBytes * k ≡ min (all - contentBytes * k) contentBytes
+  next : min (contentBytes * (k + 1)) all ≡ end
 
-turn : {k all end : ℕ} → 504 * k < all → end ≡ min (504 * k + 504) all → Turn k all end
+turn : {k all end : ℕ} → contentBytes * k < all → end ≡ min (contentBytes * k + contentBytes) all → Turn k all end
 turn h e = record { start = omega arith; after = omega arith; inside = omega arith; short = omega arith; size = omega arith; next = omega arith }
 
 sum-less : (a b : ℕ) → a + b - a ≡ b
 sum-less a b = omega arith
 
-pub length-blockAt : (file : List ℕ) (k : ℕ) → 512 * k + 512 ≤ length file → length (blockAt file k) ≡ 512
-unfolding blockAt
-length-blockAt file k h = simp (length-take, length-drop) (omega arith)
+pub length-fileBlockAt : (file : List ℕ) (k : ℕ) → fileBlockBytes * k + fileBlockBytes ≤ length file → length (fileBlockAt file k) ≡ fileBlockBytes
+unfolding fileBlockAt
+length-fileBlockAt file k h = simp (length-take, length-drop) (omega arith)
 
 -- the bytes that block k holds, as a part of the file
-pub contents-at : (file : List ℕ) (k : ℕ) → contents (blockAt file k) ≡ take 504 (drop (512 * k + 4) file)
-unfolding contents blockAt
-contents-at file k = take-drop-take 504 4 512 (drop (512 * k) file) (omega arith) ∙ ap (take 504) (drop-drop 4 (512 * k) file)
+pub contents-at : (file : List ℕ) (k : ℕ) → contents (fileBlockAt file k) ≡ take contentBytes (drop (fileBlockBytes * k + 4) file)
+unfolding contents fileBlockAt
+contents-at file k = take-drop-take contentBytes 4 fileBlockBytes (drop (fileBlockBytes * k) file) (omega arith) ∙ ap (take contentBytes) (drop-drop 4 (fileBlockBytes * k) file)
 
-pub length-contents : (file : List ℕ) (k : ℕ) → 512 * k + 512 ≤ length file → length (contents (blockAt file k)) ≡ 504
+pub length-contents : (file : List ℕ) (k : ℕ) → fileBlockBytes * k + fileBlockBytes ≤ length file → length (contents (fileBlockAt file k)) ≡ contentBytes
 length-contents file k h = ap length (contents-at file k) ∙ simp (length-take, length-drop) (omega arith)
 
-pub length-bytesIn : (file : List ℕ) (k : ℕ) → 512 * k + 512 ≤ length file → length (bytesIn file k) ≡ 504 * k
+pub length-bytesIn : (file : List ℕ) (k : ℕ) → fileBlockBytes * k + fileBlockBytes ≤ length file → length (bytesIn file k) ≡ contentBytes * k
 unfolding bytesIn firstJoined
 length-bytesIn file zero h = refl
 length-bytesIn file (suc k) h =
@@ -130,9 +137,9 @@ length-bytesIn file (suc k) h =
 pub record CellsRead (file before now : List ℕ) (k : ℕ) : Type 0 where
   pub few : length before < 2 ^ 37
   pub long : length file ≡ fileLength (length before)
-  pub within : k ≤ blocksFor (length before)
+  pub within : k ≤ fileBlocksFor (length before)
   pub same : length now ≡ length before
-  pub written : Written before now (take (length before) (bytesIn file k)) (min (504 * k) (length before))
+  pub written : Written before now (take (length before) (bytesIn file k)) (min (contentBytes * k) (length before))
 
 pub read-none : {file before : List ℕ} → length before < 2 ^ 37 → length file ≡ fileLength (length before) → CellsRead file before before 0
 unfolding bytesIn firstJoined
@@ -141,56 +148,56 @@ read-none {file} {before} h e = record {
   long = e;
   within = omega arith;
   same = refl;
-  written = let z : min (504 * 0) (length before) ≡ 0 = omega arith in rw (z, take-nil (length before)) (written-none before);
+  written = let z : min (contentBytes * 0) (length before) ≡ 0 = omega arith in rw (z, take-nil (length before)) (written-none before);
 }
 
 -- the file has another block while cells are left
-pub read-room : {file before now : List ℕ} {k : ℕ} → CellsRead file before now k → 504 * k < length now → 512 * (k + 1) + 512 ≤ length file
+pub read-room : {file before now : List ℕ} {k : ℕ} → CellsRead file before now k → contentBytes * k < length now → fileBlockBytes * (k + 1) + fileBlockBytes ≤ length file
 unfolding fileLength
 read-room s h =
-    let b = more-blocks (rw (s .same) at h) in
+    let b = more-file-blocks (rw (s .same) at h) in
     let l = s .long in
     omega arith
 
-pub read-more : {file before now part : List ℕ} {k end : ℕ} → CellsRead file before now k → 504 * k < length now → end ≡ min (504 * k + 504) (length now) → part ≡ take (512 * (k + 1) + 4 + (end - 504 * k) - (512 * (k + 1) + 4)) (drop (512 * (k + 1) + 4) file) → CellsRead file before (putMid (504 * k) (end - 504 * k) now part) (k + 1)
+pub read-more : {file before now part : List ℕ} {k end : ℕ} → CellsRead file before now k → contentBytes * k < length now → end ≡ min (contentBytes * k + contentBytes) (length now) → part ≡ take (fileBlockBytes * (k + 1) + 4 + (end - contentBytes * k) - (fileBlockBytes * (k + 1) + 4)) (drop (fileBlockBytes * (k + 1) + 4) file) → CellsRead file before (putMid (contentBytes * k) (end - contentBytes * k) now part) (k + 1)
 unfolding bytesIn firstJoined
 read-more {file} {before} {now} {part} {k} {end} s h e p =
     let all = length before in
-    let at = 512 * (k + 1) + 4 in
+    let at = fileBlockBytes * (k + 1) + 4 in
     let room = read-room s h in
     let t = turn (rw (s .same) at h) (rw (s .same) at e) in
-    let cut : part ≡ take (end - 504 * k) (drop at file) = p ∙ ap (λ n. take n (drop at file)) (sum-less at (end - 504 * k)) in
-    let many : length part ≡ end - 504 * k = ap length cut ∙ length-take-le (end - 504 * k) (drop at file) (simp length-drop (omega arith)) in
+    let cut : part ≡ take (end - contentBytes * k) (drop at file) = p ∙ ap (λ n. take n (drop at file)) (sum-less at (end - contentBytes * k)) in
+    let many : length part ≡ end - contentBytes * k = ap length cut ∙ length-take-le (end - contentBytes * k) (drop at file) (simp length-drop (omega arith)) in
     let written = written-part end part (rw (t .start) at (s .written)) (t .after) (t .inside) many in
     let size = length-bytesIn file k (omega arith) in
     let front : take all (bytesIn file k) ≡ bytesIn file k = take-all all (bytesIn file k) (omega arith) in
-    let whole : all ≡ length (bytesIn file k) + (all - 504 * k) = omega arith in
-    let back : take (all - 504 * k) (contents (blockAt file (suc k))) ≡ part =
-    ap (take (all - 504 * k)) (contents-at file (suc k))
-    ∙ take-take-min (all - 504 * k) 504 (drop (512 * suc k + 4) file)
+    let whole : all ≡ length (bytesIn file k) + (all - contentBytes * k) = omega arith in
+    let back : take (all - contentBytes * k) (contents (fileBlockAt file (suc k))) ≡ part =
+    ap (take (all - contentBytes * k)) (contents-at file (suc k))
+    ∙ take-take-min (all - contentBytes * k) contentBytes (drop (fileBlockBytes * suc k + 4) file)
     ∙ rw (← t .size, ← add-one k) (sym cut) in
     let done : take all (bytesIn file k) ++ part ≡ take all (bytesIn file (k + 1)) =
     ap (λ l. l ++ part) front ∙ ap (λ l. bytesIn file k ++ l) (sym back)
-    ∙ sym (take-append-add (bytesIn file k) (contents (blockAt file (suc k))) (all - 504 * k))
+    ∙ sym (take-append-add (bytesIn file k) (contents (fileBlockAt file (suc k))) (all - contentBytes * k))
     ∙ rw (← whole, add-one k) in
     record {
       few = s .few;
       long = s .long;
-      within = let b = more-blocks (rw (s .same) at h) in omega arith;
+      within = let b = more-file-blocks (rw (s .same) at h) in omega arith;
       same = written-length written;
       written = rw (t .next, ← done) written;
     }
 
-pub read-part : {file before now : List ℕ} {k end : ℕ} → CellsRead file before now k → 504 * k < length now → end ≡ min (504 * k + 504) (length now) → length (midOf (504 * k) (end - 504 * k) now) ≡ length (take (512 * (k + 1) + 4 + (end - 504 * k) - (512 * (k + 1) + 4)) (drop (512 * (k + 1) + 4) file))
+pub read-part : {file before now : List ℕ} {k end : ℕ} → CellsRead file before now k → contentBytes * k < length now → end ≡ min (contentBytes * k + contentBytes) (length now) → length (midOf (contentBytes * k) (end - contentBytes * k) now) ≡ length (take (fileBlockBytes * (k + 1) + 4 + (end - contentBytes * k) - (fileBlockBytes * (k + 1) + 4)) (drop (fileBlockBytes * (k + 1) + 4) file))
 read-part {file} {before} {now} {k} {end} s h e =
     let room = read-room s h in
     let from : end ≤ length now = omega arith in
-    let to : 512 * (k + 1) + 4 + (end - 504 * k) ≤ length file = omega arith in
-    mid-len (504 * k) end now from ∙ omega arith ∙ sym (mid-len (512 * (k + 1) + 4) (512 * (k + 1) + 4 + (end - 504 * k)) file to)
+    let to : fileBlockBytes * (k + 1) + 4 + (end - contentBytes * k) ≤ length file = omega arith in
+    mid-len (contentBytes * k) end now from ∙ omega arith ∙ sym (mid-len (fileBlockBytes * (k + 1) + 4) (fileBlockBytes * (k + 1) + 4 + (end - contentBytes * k)) file to)
 
-pub read-all : {file before now : List ℕ} {k : ℕ} → CellsRead file before now k → length now ≤ 504 * k → now ≡ take (length before) (bytesIn file (blocksFor (length before)))
+pub read-all : {file before now : List ℕ} {k : ℕ} → CellsRead file before now k → length now ≤ contentBytes * k → now ≡ take (length before) (bytesIn file (fileBlocksFor (length before)))
 read-all {file} {before} {now} {k} s h =
     let l = s .same in
-    let less : length before ≤ 504 * k = omega arith in
-    let all = all-blocks (s .within) less in
+    let less : length before ≤ contentBytes * k = omega arith in
+    let all = all-file-blocks (s .within) less in
     written-all (s .written) (omega arith) ∙ ap (λ n. take (length before) (bytesIn file n)) all

@@ -9,24 +9,24 @@ use borrow.Author.Tests.{not-false}
 use lib.ListN.{length, getD, take, drop, replicate, length-append, length-take, length-drop}
 use lib.Seq.{getD-take, drop-cons, take-add, take-take, drop-drop}
 use Rattle.scope.specs.declared.Run.{Run}
-use Rattle.scope.specs.Run.{ValidRun, UpTo}
+use Rattle.scope.specs.Run.{ValidRun}
 use Rattle.scope.proofs.Judged.{Passes, sound, both}
 use Rattle.scope.proofs.Limits.{passes-first, passes-then, passes-when}
-use Rattle.blocks.specs.Block.{four, fourAt, filled, sealed, blockOf, allZero}
-use Rattle.saved.specs.File.{heading, blockAt, runOf, headingTests}
+use Rattle.fileblocks.specs.FileBlock.{fileBlockBytes, contentBytes, Bytes, four, fourAt, filled, sealed, fileBlockOf, allZero}
+use Rattle.saved.specs.File.{heading, fileBlockAt, runOf, headingTests}
 use Rattle.saved.proofs.Lists.{take-drop-take}
-use Rattle.blocks.proofs.Filling.{all-zero-replicate}
-use Rattle.saved.proofs.Bytes.{bytes-append, bytes-four, bytes-blockAt}
-use Rattle.blocks.proofs.Block.{length-four}
-use Rattle.saved.proofs.Cells.{contents-at, length-blockAt}
-use Rattle.saved.proofs.Sealing.{block-passes, block-is, four-back}
-use Rattle.blocks.proofs.Differs.{agrees, same}
+use Rattle.fileblocks.proofs.Filling.{all-zero-replicate}
+use Rattle.saved.proofs.Bytes.{bytes-append, bytes-four, bytes-fileBlockAt}
+use Rattle.fileblocks.proofs.FileBlock.{length-four}
+use Rattle.saved.proofs.Cells.{contents-at, length-fileBlockAt}
+use Rattle.saved.proofs.Sealing.{file-block-passes, file-block-is, four-back}
+use Rattle.scope.proofs.Differs.{agrees, same}
 
 pub length-heading : (run : Run) → length (heading run) ≡ 20
 unfolding heading
 length-heading run = simp (length-append, length-four)
 
-bytes-heading : (run : Run) → UpTo 255 (heading run)
+bytes-heading : (run : Run) → Bytes (heading run)
 unfolding heading four
 bytes-heading run =
     bytes-append (four 1) (four (run .window) ++ four (run .interval) ++ four (run .first) ++ four (run .last)) (bytes-four 1)
@@ -35,40 +35,40 @@ bytes-heading run =
     (bytes-append (four (run .window)) (four (run .interval)) (bytes-four _) (bytes-four _)) (bytes-four _)) (bytes-four _))
 
 -- the run is told, whatever follows
-pub run-told : (run : Run) (rest : List ℕ) → ValidRun run → runOf (blockOf 0 (heading run) ++ rest) ≡ run
-unfolding runOf blockOf sealed filled heading four fourAt
+pub run-told : (run : Run) (rest : List ℕ) → ValidRun run → runOf (fileBlockOf 0 (heading run) ++ rest) ≡ run
+unfolding runOf fileBlockOf sealed filled heading four fourAt
 run-told run rest v =
-    let file = blockOf 0 (heading run) ++ rest in
+    let file = fileBlockOf 0 (heading run) ++ rest in
     let w : fourAt file 8 ≡ run .window = omega arith in
     let t : fourAt file 12 ≡ run .interval = omega arith in
     let f : fourAt file 16 ≡ run .first = omega arith in
     let l : fourAt file 20 ≡ run .last = omega arith in
     λ i. record { window = w i; interval = t i; first = f i; last = l i }
 
-version-there : (run : Run) → getD (blockOf 0 (heading run)) 4 0 ≡ 1
-unfolding blockOf sealed filled heading four
+version-there : (run : Run) → getD (fileBlockOf 0 (heading run)) 4 0 ≡ 1
+unfolding fileBlockOf sealed filled heading four
 version-there run = refl
 
-spare-there : (run : Run) → allZero (take 3 (drop 5 (blockOf 0 (heading run)))) ≡ true
-unfolding blockOf sealed filled heading four allZero
+spare-there : (run : Run) → allZero (take 3 (drop 5 (fileBlockOf 0 (heading run)))) ≡ true
+unfolding fileBlockOf sealed filled heading four allZero
 spare-there run = refl
 
-pub heading-passes : (run : Run) → Passes (headingTests (blockOf 0 (heading run)))
+pub heading-passes : (run : Run) → Passes (headingTests (fileBlockOf 0 (heading run)))
 unfolding headingTests
 heading-passes run =
     both
-    (both (block-passes 0 (heading run) 20 (omega arith) (bytes-heading run) (le-of-eq (length-heading run))) (sound (agrees refl refl (version-there run))))
+    (both (file-block-passes 0 (heading run) 20 (omega arith) (bytes-heading run) (le-of-eq (length-heading run))) (sound (agrees refl refl (version-there run))))
     (sound (ap not (spare-there run)))
 
 -- the version and the spare bytes of a block that passes, and the numbers behind them
-module _ (file : List ℕ) (l : 512 ≤ length file) (b : UpTo 255 file) (p : Passes (headingTests (blockAt file 0))) where
+module _ (file : List ℕ) (l : fileBlockBytes ≤ length file) (b : Bytes file) (p : Passes (headingTests (fileBlockAt file 0))) where
   spare-told : take 4 (drop 4 file) ≡ 1 ∷ 0 ∷ 0 ∷ 0 ∷ []
-  unfolding headingTests blockAt
+  unfolding headingTests fileBlockAt
   spare-told =
-      let version : getD file 4 0 ≡ 1 = sym (getD-take 512 file 4 0 (omega arith)) ∙ same _ _ (passes-then (passes-first p)) in
-      let three : length (take 3 (drop 5 (take 512 file))) ≡ 3 = simp (length-take, length-drop) (omega arith) in
+      let version : getD file 4 0 ≡ 1 = sym (getD-take fileBlockBytes file 4 0 (omega arith)) ∙ same _ _ (passes-then (passes-first p)) in
+      let three : length (take 3 (drop 5 (take fileBlockBytes file))) ≡ 3 = simp (length-take, length-drop) (omega arith) in
       let spare : take 3 (drop 5 file) ≡ 0 ∷ 0 ∷ 0 ∷ [] =
-      sym (take-drop-take 3 5 512 file (omega arith)) ∙ all-zero-replicate _ (not-false _ (passes-when (passes-then p))) ∙ ap (λ n. replicate n 0) three in
+      sym (take-drop-take 3 5 fileBlockBytes file (omega arith)) ∙ all-zero-replicate _ (not-false _ (passes-when (passes-then p))) ∙ ap (λ n. replicate n 0) three in
       ap (take 4) (drop-cons file 4 0 (omega arith)) ∙ rw (version, spare)
 
   number-told : (k : ℕ) → k ≤ 16 → take 4 (drop k (drop 4 file)) ≡ four (fourAt file (4 + k))
@@ -83,8 +83,8 @@ module _ (file : List ℕ) (l : 512 ≤ length file) (b : UpTo 255 file) (p : Pa
       ∙ ap (λ x. x ++ take 4 (drop 8 (drop 4 file)) ++ take 4 (drop 12 (drop 4 file)) ++ take 4 (drop 16 (drop 4 file))) (take-add 4 4 (drop 4 file))
       ∙ rw (spare-told, number-told 4 (omega arith), number-told 8 (omega arith), number-told 12 (omega arith), number-told 16 (omega arith))
 
-  pub heading-is : blockAt file 0 ≡ blockOf 0 (heading (runOf file))
+  pub heading-is : fileBlockAt file 0 ≡ fileBlockOf 0 (heading (runOf file))
   unfolding headingTests
   heading-is =
-      block-is 0 20 (blockAt file 0) (length-blockAt file 0 l) (bytes-blockAt file 0 b) (passes-first (passes-first p))
-      ∙ ap (blockOf 0) (ap (take 20) (contents-at file 0) ∙ take-take 20 504 (drop 4 file) (omega arith) ∙ twenty)
+      file-block-is 0 20 (fileBlockAt file 0) (length-fileBlockAt file 0 l) (bytes-fileBlockAt file 0 b) (passes-first (passes-first p))
+      ∙ ap (fileBlockOf 0) (ap (take 20) (contents-at file 0) ∙ take-take 20 contentBytes (drop 4 file) (omega arith) ∙ twenty)

@@ -11,50 +11,50 @@ use Rattle.scope.specs.InnerVerdict.{verdict}
 use Rattle.scope.specs.declared.Verdict.{Verdict}
 use Rattle.scope.specs.declared.Verdict.the-variants.{Fine, Refused}
 use Rattle.scope.proofs.Judged.{Fails, Passes, no-tests, first, then, both, fine, blamed}
-use Rattle.blocks.specs.Block.{blockTests}
-use Rattle.saved.specs.File.{blockAt, cellBlocksTests, blocksFor}
-use Rattle.saved.proofs.Cells.{more-blocks, all-blocks}
+use Rattle.fileblocks.specs.FileBlock.{fileBlockBytes, contentBytes, fileBlockTests}
+use Rattle.saved.specs.File.{fileBlockAt, laterFileBlocksTests, fileBlocksFor}
+use Rattle.saved.proofs.Cells.{more-file-blocks, all-file-blocks}
 
 -- the first k blocks of a file with so many bytes of cells pass their tests
 pub record CellsJudged (size : ℕ) (file : List ℕ) (k : ℕ) : Type 0 where
-  pub within : k ≤ blocksFor size
-  pub passes : Passes (cellBlocksTests size file k)
+  pub within : k ≤ fileBlocksFor size
+  pub passes : Passes (laterFileBlocksTests size file k)
 
 pub judged-none : {size : ℕ} {file : List ℕ} → CellsJudged size file 0
-unfolding cellBlocksTests
+unfolding laterFileBlocksTests
 judged-none = record { within = omega arith; passes = no-tests }
 
 -- what the code found of block k + 1, as it takes it out of the file
 pub record NextJudged (size : ℕ) (file : List ℕ) (k : ℕ) (v : Verdict) : Type 0 where
-  pub is : v ≡ verdict (complaint (blockTests (k + 1) (size - 504 * k) (take (512 * (k + 1) + 512 - 512 * (k + 1)) (drop (512 * (k + 1)) file))))
+  pub is : v ≡ verdict (complaint (fileBlockTests (k + 1) (size - contentBytes * k) (take (fileBlockBytes * (k + 1) + fileBlockBytes - fileBlockBytes * (k + 1)) (drop (fileBlockBytes * (k + 1)) file))))
 
-as-block : {size k : ℕ} {file : List ℕ} {v : Verdict} → NextJudged size file k v → v ≡ verdict (complaint (blockTests (suc k) (size - 504 * k) (blockAt file (suc k))))
-unfolding blockAt
-as-block {size} {k} {file} {v} j =
-    let all : 512 * (k + 1) + 512 - 512 * (k + 1) ≡ 512 = omega arith in
+as-file-block : {size k : ℕ} {file : List ℕ} {v : Verdict} → NextJudged size file k v → v ≡ verdict (complaint (fileBlockTests (suc k) (size - contentBytes * k) (fileBlockAt file (suc k))))
+unfolding fileBlockAt
+as-file-block {size} {k} {file} {v} j =
+    let all : fileBlockBytes * (k + 1) + fileBlockBytes - fileBlockBytes * (k + 1) ≡ fileBlockBytes = omega arith in
     rw (all, add-one k) at (j .is)
 
 -- it passes too
-pub judged-more : {size k : ℕ} {file : List ℕ} {v : Verdict} → CellsJudged size file k → 504 * k < size → NextJudged size file k v → v ≡ Fine → CellsJudged size file (k + 1)
-unfolding cellBlocksTests
+pub judged-more : {size k : ℕ} {file : List ℕ} {v : Verdict} → CellsJudged size file k → contentBytes * k < size → NextJudged size file k v → v ≡ Fine → CellsJudged size file (k + 1)
+unfolding laterFileBlocksTests
 judged-more {size} {k} {file} {v} s h j e = record {
-  within = let b = more-blocks h in omega arith;
-  passes = rw (add-one k) (both (s .passes) (fine (as-block j) e));
+  within = let b = more-file-blocks h in omega arith;
+  passes = rw (add-one k) (both (s .passes) (fine (as-file-block j) e));
 }
 
 -- it fails: so do all together, whatever comes behind it
-fails-on : {n : ℕ} (size : ℕ) (file : List ℕ) (k d : ℕ) → Fails (cellBlocksTests size file k) n → Fails (cellBlocksTests size file (k + d)) n
-unfolding cellBlocksTests
+fails-on : {n : ℕ} (size : ℕ) (file : List ℕ) (k d : ℕ) → Fails (laterFileBlocksTests size file k) n → Fails (laterFileBlocksTests size file (k + d)) n
+unfolding laterFileBlocksTests
 fails-on size file k zero f = rw (add-zero k) f
 fails-on size file k (suc d) f = rw (add-suc k d) (first (fails-on size file k d f))
 
-pub judged-fails : {size k n : ℕ} {file : List ℕ} {v : Verdict} → CellsJudged size file k → 504 * k < size → NextJudged size file k v → v ≡ Refused n → Fails (cellBlocksTests size file (blocksFor size)) n
-unfolding cellBlocksTests
+pub judged-fails : {size k n : ℕ} {file : List ℕ} {v : Verdict} → CellsJudged size file k → contentBytes * k < size → NextJudged size file k v → v ≡ Refused n → Fails (laterFileBlocksTests size file (fileBlocksFor size)) n
+unfolding laterFileBlocksTests
 judged-fails {size} {k} {n} {file} {v} s h j e =
-    let b = more-blocks h in
-    let all : suc k + (blocksFor size - suc k) ≡ blocksFor size = omega arith in
-    rw all at (fails-on size file (suc k) (blocksFor size - suc k) (then (s .passes) (blamed (as-block j) e)))
+    let b = more-file-blocks h in
+    let all : suc k + (fileBlocksFor size - suc k) ≡ fileBlocksFor size = omega arith in
+    rw all at (fails-on size file (suc k) (fileBlocksFor size - suc k) (then (s .passes) (blamed (as-file-block j) e)))
 
 -- no cells are left: all pass
-pub judged-all : {size k : ℕ} {file : List ℕ} → CellsJudged size file k → size ≤ 504 * k → Passes (cellBlocksTests size file (blocksFor size))
-judged-all s h = rw (all-blocks (s .within) h) at (s .passes)
+pub judged-all : {size k : ℕ} {file : List ℕ} → CellsJudged size file k → size ≤ contentBytes * k → Passes (laterFileBlocksTests size file (fileBlocksFor size))
+judged-all s h = rw (all-file-blocks (s .within) h) at (s .passes)

@@ -6,6 +6,8 @@ pub mod Judging
 pub mod Sealing
 pub mod Heading
 pub mod Promises
+pub mod Unique
 pub mod Saving
 pub mod Accepting
 pub mod RoundTrips
+pub mod Table

@@ -9,10 +9,10 @@ use Rattle.scope.specs.Refusal.{runTests}
 use Rattle.scope.specs.Reply.{answered}
 use Rattle.scope.proofs.Judged.{Fails, Passes, refuse-reply, refuse-stored, grant-reply, grant-stored}
 use Rattle.scope.proofs.Limits.{passes-first, passes-then}
-use Rattle.blocks.proofs.Differs.{same}
+use Rattle.scope.proofs.Differs.{same}
 use Rattle.saved.specs.declared.Saved.the-variants.{Done, Refused as Refused·saved}
 use Rattle.saved.specs.declared.Loaded.the-variants.{Of, Refused as Refused·loaded}
-use Rattle.saved.specs.File.{blocksFor, fileLength, fileOf, blockAt, runOf, mapOf, headingTests, cellBlocksTests, fileTests, savingTests, readingTests}
+use Rattle.saved.specs.File.{fileBlocksFor, fileLength, bytesFor, fileOf, fileBlockAt, runOf, mapOf, headingTests, laterFileBlocksTests, fileTests, savingTests, readingTests}
 use Rattle.saved.specs.Promise.{SavingPromise, ReadingPromise}
 
 pub refuse-saving : {run : Run} {map file : List ℕ} {n : ℕ} → Fails (savingTests run map file) n → SavingPromise run map file (Refused·saved n) file
@@ -29,10 +29,10 @@ grant-reading p r e = record { says = ap answered r ∙ grant-reply _ p; stores 
 
 -- what is so of a file that passes its tests
 pub record Accepted (file : List ℕ) : Type 0 where
-  pub headed : Passes (headingTests (blockAt file 0))
+  pub headed : Passes (headingTests (fileBlockAt file 0))
   pub limited : Passes (runTests (runOf file))
-  pub long : length file ≡ fileLength (cellsOf (runOf file))
-  pub celled : Passes (cellBlocksTests (cellsOf (runOf file)) file (blocksFor (cellsOf (runOf file))))
+  pub long : length file ≡ fileLength (bytesFor (runOf file))
+  pub celled : Passes (laterFileBlocksTests (bytesFor (runOf file)) file (fileBlocksFor (bytesFor (runOf file))))
 
 pub accepted : {file : List ℕ} → Passes (fileTests file) → Accepted file
 unfolding fileTests

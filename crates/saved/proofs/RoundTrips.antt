@@ -1,55 +1,29 @@
--- Theorems over the promises alone: no second reply fits; "a saved map reads back as it was written, and an accepted file written again gives the same bytes".
--- Assumes nothing.
+-- Theorems over the promises alone: "a saved map reads back as it was written, and an accepted file written again gives the same
+-- bytes". Assumes nothing.
 use Prim.Native.Nat.{ℕ}
 use mathlib.Core.Path.{_≡_, refl, sym, ap, _∙_}
 use mathlib.Core.Logic.{_↔_}
 use mathlib.Core.List.{List}
-use native.Mathlib.Omega.{arith}
 use lib.ListN.{length}
 use Rattle.scope.specs.declared.Run.{Run}
-use Rattle.scope.specs.Run.{ValidRun, UpTo, cellsOf}
+use Rattle.scope.specs.Run.{ValidRun, cellsOf}
 use Rattle.scope.proofs.Judged.{sound, both, grant-stored, said-answered}
 use Rattle.scope.proofs.Limits.{valid-run-passes, passes-first, passes-then}
+use Rattle.fileblocks.specs.FileBlock.{Bytes}
 use Rattle.saved.specs.declared.Saved.{Saved}
-use Rattle.saved.specs.declared.Saved.the-variants.{Done, Refused as Refused·saved}
+use Rattle.saved.specs.declared.Saved.the-variants.{Done}
 use Rattle.saved.specs.declared.Loaded.{Loaded}
-use Rattle.saved.specs.declared.Loaded.the-variants.{Of, Refused as Refused·loaded}
-use Rattle.saved.specs.File.{fileLength, fileOf, mapOf, savingTests, readingTests}
-use Rattle.saved.specs.Promise.{saysSaving, saysReading, SavingPromise, ReadingPromise}
-use Rattle.blocks.proofs.Differs.{agrees, same}
+use Rattle.saved.specs.declared.Loaded.the-variants.{Of}
+use Rattle.saved.specs.File.{fileLength, bytesFor, fileOf, mapOf, savingTests, readingTests}
+use Rattle.saved.specs.Promise.{SavingPromise, ReadingPromise}
+use Rattle.scope.proofs.Differs.{agrees, same}
 use Rattle.saved.proofs.Promises.{accepted, grant-saving, grant-reading}
+use Rattle.saved.proofs.Unique.{only-saving, only-reading}
 use Rattle.saved.proofs.Saving.{run-read, map-read, file-passes}
 use Rattle.saved.proofs.Accepting.{length-mapOf, file-is}
 
--- what two replies say is the same only if they are
-says-saving-injective : (a b : Saved) → saysSaving a ≡ saysSaving b → a ≡ b
-says-saving-injective Done Done e = refl
-says-saving-injective Done (Refused·saved n) e = absurd (let z : _≡_ {A = ℕ} 0 1 = cc in omega arith)
-says-saving-injective (Refused·saved m) Done e = absurd (let z : _≡_ {A = ℕ} 0 1 = cc in omega arith)
-says-saving-injective (Refused·saved m) (Refused·saved n) e = cc
-
-says-reading-injective : (a b : Loaded) → saysReading a ≡ saysReading b → a ≡ b
-says-reading-injective (Of q) (Of r) e = cc
-says-reading-injective (Of q) (Refused·loaded n) e = absurd (let z : _≡_ {A = ℕ} 0 1 = cc in omega arith)
-says-reading-injective (Refused·loaded m) (Of r) e = absurd (let z : _≡_ {A = ℕ} 0 1 = cc in omega arith)
-says-reading-injective (Refused·loaded m) (Refused·loaded n) e = cc
-
--- no second reply fits
-pub saving-unique : {run : Run} {map file f g : List ℕ} {a b : Saved} → SavingPromise run map file a f → SavingPromise run map file b g → (a ≡ b) × (f ≡ g)
-saving-unique {a} {b} p q = (says-saving-injective a b (p .says ∙ sym (q .says)), p .stores ∙ sym (q .stores))
-
-pub reading-unique : {file map f g : List ℕ} {a b : Loaded} → ReadingPromise file map a f → ReadingPromise file map b g → (a ≡ b) × (f ≡ g)
-reading-unique {a} {b} p q = (says-reading-injective a b (p .says ∙ sym (q .says)), p .stores ∙ sym (q .stores))
-
--- so an outcome that is admitted is the only one
-pub only-saving : {run : Run} {map file f : List ℕ} {a : Saved} → SavingPromise run map file a f → (answer : Saved) (after : List ℕ) → SavingPromise run map file answer after ↔ (answer ≡ a) × (after ≡ f)
-only-saving p answer after = (λ q. saving-unique q p, λ e. rw (e .0, e .1) p)
-
-pub only-reading : {file map f : List ℕ} {a : Loaded} → ReadingPromise file map a f → (answer : Loaded) (after : List ℕ) → ReadingPromise file map answer after ↔ (answer ≡ a) × (after ≡ f)
-only-reading p answer after = (λ q. reading-unique q p, λ e. rw (e .0, e .1) p)
-
 -- a run within the limits, its map and a room of the file's length are saved
-pub saves : {run : Run} {map room : List ℕ} → ValidRun run → length map ≡ cellsOf run → length room ≡ fileLength (cellsOf run) → SavingPromise run map room Done (fileOf run map)
+pub saves : {run : Run} {map room : List ℕ} → ValidRun run → length map ≡ cellsOf run → length room ≡ fileLength (bytesFor run) → SavingPromise run map room Done (fileOf run map)
 unfolding savingTests
 saves v m l = grant-saving (both (both (valid-run-passes v) (sound (agrees refl refl m))) (sound (agrees refl refl l))) refl
 
@@ -68,7 +42,7 @@ stored-there {run} {map} {room} {file} p =
     }
 
 -- "A saved map reads back as it was written": whatever the map holds, and whatever the lent room held
-pub reads-back : {run : Run} {map room file into : List ℕ} → ValidRun run → UpTo 255 map → SavingPromise run map room Done file → length into ≡ length map → (answer : Loaded) (after : List ℕ) → ReadingPromise file into answer after ↔ (answer ≡ Of run) × (after ≡ map)
+pub reads-back : {run : Run} {map room file into : List ℕ} → ValidRun run → Bytes map → SavingPromise run map room Done file → length into ≡ length map → (answer : Loaded) (after : List ℕ) → ReadingPromise file into answer after ↔ (answer ≡ Of run) × (after ≡ map)
 unfolding readingTests
 reads-back {run} {map} {room} {file} {into} v b p l =
     let s = stored-there p in
@@ -77,7 +51,7 @@ reads-back {run} {map} {room} {file} {into} v b p l =
     only-reading (rw (s .is) (grant-reading (both (file-passes run map v (s .cells) b) fits) (sym same-run) (sym (map-read run map v (s .cells)))))
 
 -- "and an accepted file written again gives the same bytes": into any room of the file's length
-pub writes-back : {run : Run} {file into map room : List ℕ} → UpTo 255 file → ReadingPromise file into (Of run) map → length room ≡ length file → (answer : Saved) (after : List ℕ) → SavingPromise run map room answer after ↔ (answer ≡ Done) × (after ≡ file)
+pub writes-back : {run : Run} {file into map room : List ℕ} → Bytes file → ReadingPromise file into (Of run) map → length room ≡ length file → (answer : Saved) (after : List ℕ) → SavingPromise run map room answer after ↔ (answer ≡ Done) × (after ≡ file)
 unfolding readingTests savingTests
 writes-back {run} {file} {into} {map} {room} b p l =
     let told = said-answered (readingTests file into) (p .says) in

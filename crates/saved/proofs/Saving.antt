@@ -8,108 +8,110 @@ use borrow.Author.Tests.{ne-eqb}
 use lib.ListN.{length, take, drop, length-append, length-drop}
 use lib.Seq.{take-nil, take-all, take-at, drop-at, take-add, drop-drop, take-append-add}
 use Rattle.scope.specs.declared.Run.{Run}
-use Rattle.scope.specs.Run.{ValidRun, UpTo, cellsOf}
+use Rattle.scope.specs.Run.{ValidRun, cellsOf}
 use Rattle.scope.proofs.Judged.{Passes, sound, both, no-tests}
 use Rattle.scope.proofs.Limits.{valid-run-passes, cells-few}
-use Rattle.blocks.specs.Block.{filled, blockOf, contents}
-use Rattle.saved.specs.File.{heading, firstJoined, cellBlocks, blocksFor, fileLength, fileOf, blockAt, runOf, bytesIn, mapOf, cellBlocksTests, fileTests}
+use Rattle.fileblocks.specs.FileBlock.{fileBlockBytes, contentBytes, Bytes, filled, fileBlockOf, contents}
+use Rattle.saved.specs.File.{heading, firstJoined, laterFileBlocks, fileBlocksFor, fileLength, bytesFor, fileOf, fileBlockAt, runOf, bytesIn, mapOf, laterFileBlocksTests, fileTests}
 use Rattle.saved.proofs.Joined.{first-joined-at}
 use Rattle.saved.proofs.Bytes.{bytes-drop}
-use Rattle.blocks.proofs.Block.{length-block, take-filled}
-use Rattle.saved.proofs.Cells.{begun-block, enough-blocks, length-cellBlocks, length-bytesIn}
-use Rattle.saved.proofs.Sealing.{block-passes, block-contents}
+use Rattle.fileblocks.proofs.FileBlock.{length-fileBlockOf, take-filled}
+use Rattle.saved.proofs.Cells.{cell-bytes, begun-file-block, enough-file-blocks, length-laterFileBlocks, length-bytesIn}
+use Rattle.saved.proofs.Sealing.{file-block-passes, file-block-contents}
 use Rattle.saved.proofs.Heading.{run-told, heading-passes}
-use Rattle.blocks.proofs.Differs.{agrees}
+use Rattle.scope.proofs.Differs.{agrees}
 
-pub length-file : (run : Run) (map : List ℕ) → length (fileOf run map) ≡ fileLength (cellsOf run)
+pub length-file : (run : Run) (map : List ℕ) → length (fileOf run map) ≡ fileLength (bytesFor run)
 unfolding fileOf fileLength
 length-file run map =
-    let h = length-block 0 (heading run) in
-    let c = length-cellBlocks map (blocksFor (cellsOf run)) in
+    let h = length-fileBlockOf 0 (heading run) in
+    let c = length-laterFileBlocks map (fileBlocksFor (bytesFor run)) in
     simp length-append (omega arith)
 
 -- block 0 of the file, and the others
-pub head-at : (run : Run) (map : List ℕ) → blockAt (fileOf run map) 0 ≡ blockOf 0 (heading run)
-unfolding blockAt fileOf
-head-at run map = take-at (blockOf 0 (heading run)) (cellBlocks map (blocksFor (cellsOf run))) 512 (length-block 0 (heading run))
+pub head-at : (run : Run) (map : List ℕ) → fileBlockAt (fileOf run map) 0 ≡ fileBlockOf 0 (heading run)
+unfolding fileBlockAt fileOf
+head-at run map = take-at (fileBlockOf 0 (heading run)) (laterFileBlocks map (fileBlocksFor (bytesFor run))) fileBlockBytes (length-fileBlockOf 0 (heading run))
 
-pub cells-at : (run : Run) (map : List ℕ) (k : ℕ) → k < blocksFor (cellsOf run) → blockAt (fileOf run map) (suc k) ≡ blockOf (suc k) (drop (504 * k) map)
-unfolding blockAt fileOf cellBlocks
+pub cells-at : (run : Run) (map : List ℕ) (k : ℕ) → k < fileBlocksFor (bytesFor run) → fileBlockAt (fileOf run map) (suc k) ≡ fileBlockOf (suc k) (drop (contentBytes * k) map)
+unfolding fileBlockAt fileOf laterFileBlocks
 cells-at run map k h =
-    let n = blocksFor (cellsOf run) in
-    let next : 512 * suc k ≡ 512 + 512 * k = omega arith in
-    ap (λ m. take 512 (drop m (fileOf run map))) next
-    ∙ ap (take 512) (sym (drop-drop (512 * k) 512 (fileOf run map)))
-    ∙ ap (λ l. take 512 (drop (512 * k) l)) (drop-at (blockOf 0 (heading run)) (cellBlocks map n) 512 (length-block 0 (heading run)))
-    ∙ first-joined-at n k (record { each = λ j b. length-block (suc j) (drop (504 * j) map) }) h
+    let n = fileBlocksFor (bytesFor run) in
+    let next : fileBlockBytes * suc k ≡ fileBlockBytes + fileBlockBytes * k = omega arith in
+    ap (λ m. take fileBlockBytes (drop m (fileOf run map))) next
+    ∙ ap (take fileBlockBytes) (sym (drop-drop (fileBlockBytes * k) fileBlockBytes (fileOf run map)))
+    ∙ ap (λ l. take fileBlockBytes (drop (fileBlockBytes * k) l)) (drop-at (fileBlockOf 0 (heading run)) (laterFileBlocks map n) fileBlockBytes (length-fileBlockOf 0 (heading run)))
+    ∙ first-joined-at n k (record { each = λ j b. length-fileBlockOf (suc j) (drop (contentBytes * j) map) }) h
 
 module _ (run : Run) (map : List ℕ) (v : ValidRun run) (whole : length map ≡ cellsOf run) where
   pub run-read : runOf (fileOf run map) ≡ run
   unfolding fileOf
-  run-read = run-told run (cellBlocks map (blocksFor (cellsOf run))) v
+  run-read = run-told run (laterFileBlocks map (fileBlocksFor (bytesFor run))) v
 
-  last-block : {k : ℕ} → k < blocksFor (cellsOf run) → 512 * k + 512 ≤ fileLength (cellsOf run)
+  last-file-block : {k : ℕ} → k < fileBlocksFor (bytesFor run) → fileBlockBytes * k + fileBlockBytes ≤ fileLength (bytesFor run)
   unfolding fileLength
-  last-block h = omega arith
+  last-file-block h = omega arith
 
-  number-fits : {k : ℕ} → k < blocksFor (cellsOf run) → suc k < 4294967296
-  unfolding blocksFor
-  number-fits h = let few = cells-few v in omega arith
+  number-fits : {k : ℕ} → k < fileBlocksFor (bytesFor run) → suc k < 4294967296
+  unfolding fileBlocksFor
+  number-fits h = let few = cells-few v in let one = cell-bytes run in omega arith
 
   -- the cells that the first n blocks hold are the map's
-  cells-read : (n : ℕ) → n ≤ blocksFor (cellsOf run) → take (length map) (bytesIn (fileOf run map) n) ≡ take (504 * n) map
+  cells-read : (n : ℕ) → n ≤ fileBlocksFor (bytesFor run) → take (length map) (bytesIn (fileOf run map) n) ≡ take (contentBytes * n) map
   unfolding bytesIn firstJoined
   cells-read zero h = take-nil (length map)
   cells-read (suc k) h =
       let saved = fileOf run map in
       let before = bytesIn saved k in
-      let cells = drop (504 * k) map in
-      let left = begun-block h in
-      let room : 512 * k + 512 ≤ length saved = rw (length-file run map) (last-block h) in
+      let cells = drop (contentBytes * k) map in
+      let left = begun-file-block h in
+      let one = cell-bytes run in
+      let room : fileBlockBytes * k + fileBlockBytes ≤ length saved = rw (length-file run map) (last-file-block h) in
       let size = length-bytesIn saved k room in
-      let same : before ≡ take (504 * k) map = sym (take-all (length map) before (omega arith)) ∙ cells-read k (omega arith) in
-      let held : contents (blockAt saved (suc k)) ≡ filled cells = ap contents (cells-at run map k h) ∙ block-contents (suc k) cells in
-      let rest : length map - 504 * k ≡ length cells = sym (length-drop (504 * k) map) in
-      let all : length map ≡ length before + (length map - 504 * k) = omega arith in
-      let next : 504 * suc k ≡ 504 * k + 504 = omega arith in
-      ap (λ m. take m (before ++ contents (blockAt saved (suc k)))) all
-      ∙ take-append-add before (contents (blockAt saved (suc k))) (length map - 504 * k)
-      ∙ ap (λ l. before ++ take (length map - 504 * k) l) held
+      let same : before ≡ take (contentBytes * k) map = sym (take-all (length map) before (omega arith)) ∙ cells-read k (omega arith) in
+      let held : contents (fileBlockAt saved (suc k)) ≡ filled cells = ap contents (cells-at run map k h) ∙ file-block-contents (suc k) cells in
+      let rest : length map - contentBytes * k ≡ length cells = sym (length-drop (contentBytes * k) map) in
+      let all : length map ≡ length before + (length map - contentBytes * k) = omega arith in
+      let next : contentBytes * suc k ≡ contentBytes * k + contentBytes = omega arith in
+      ap (λ m. take m (before ++ contents (fileBlockAt saved (suc k)))) all
+      ∙ take-append-add before (contents (fileBlockAt saved (suc k))) (length map - contentBytes * k)
+      ∙ ap (λ l. before ++ take (length map - contentBytes * k) l) held
       ∙ ap (λ m. before ++ take m (filled cells)) rest
       ∙ ap (λ l. before ++ l) (take-filled cells)
-      ∙ ap (λ l. l ++ take 504 cells) same
-      ∙ sym (ap (λ m. take m map) next ∙ take-add (504 * k) 504 map)
+      ∙ ap (λ l. l ++ take contentBytes cells) same
+      ∙ sym (ap (λ m. take m map) next ∙ take-add (contentBytes * k) contentBytes map)
 
   pub map-read : mapOf (fileOf run map) ≡ map
   unfolding mapOf
   map-read =
       let saved = fileOf run map in
-      let n = blocksFor (cellsOf run) in
-      let enough = enough-blocks (cellsOf run) in
-      ap (λ r. take (cellsOf r) (bytesIn saved (blocksFor (cellsOf r)))) run-read
+      let n = fileBlocksFor (bytesFor run) in
+      let enough = enough-file-blocks (bytesFor run) in
+      let one = cell-bytes run in
+      ap (λ r. take (cellsOf r) (bytesIn saved (fileBlocksFor (bytesFor r)))) run-read
       ∙ ap (λ m. take m (bytesIn saved n)) (sym whole)
       ∙ cells-read n (le-refl n)
-      ∙ take-all (504 * n) map (omega arith)
+      ∙ take-all (contentBytes * n) map (omega arith)
 
-  pub cells-pass : UpTo 255 map → (n : ℕ) → n ≤ blocksFor (cellsOf run) → Passes (cellBlocksTests (cellsOf run) (fileOf run map) n)
-  unfolding cellBlocksTests
+  pub cells-pass : Bytes map → (n : ℕ) → n ≤ fileBlocksFor (bytesFor run) → Passes (laterFileBlocksTests (bytesFor run) (fileOf run map) n)
+  unfolding laterFileBlocksTests
   cells-pass b zero h = no-tests
-  cells-pass b (suc k) h = both (cells-pass b k (omega arith)) (rw (cells-at run map k h) (block-passes (suc k) (drop (504 * k) map) (cellsOf run - 504 * k) (number-fits h) (bytes-drop (504 * k) map b) (simp length-drop (omega arith))))
+  cells-pass b (suc k) h = both (cells-pass b k (omega arith)) (rw (cells-at run map k h) (file-block-passes (suc k) (drop (contentBytes * k) map) (bytesFor run - contentBytes * k) (number-fits h) (bytes-drop (contentBytes * k) map b) (let one = cell-bytes run in simp length-drop (omega arith))))
 
-  pub file-passes : UpTo 255 map → Passes (fileTests (fileOf run map))
+  pub file-passes : Bytes map → Passes (fileTests (fileOf run map))
   unfolding fileTests fileLength
   file-passes b =
       let saved = fileOf run map in
-      let n = blocksFor (cellsOf run) in
+      let n = fileBlocksFor (bytesFor run) in
       let long = length-file run map in
-      let some-block : length saved ≡ 0 → ⊥ = λ e. omega arith in
-      let whole-blocks : length saved % 512 ≡ 0 = omega arith in
+      let some-file-block : length saved ≡ 0 → ⊥ = λ e. omega arith in
+      let whole-file-blocks : length saved % fileBlockBytes ≡ 0 = omega arith in
       both
       (both
       (both
       (both
-      (both (sound (agrees refl refl whole-blocks)) (sound (ne-eqb _ _ some-block)))
+      (both (sound (agrees refl refl whole-file-blocks)) (sound (ne-eqb _ _ some-file-block)))
       (rw (head-at run map) (heading-passes run)))
       (rw run-read (valid-run-passes v)))
-      (sound (agrees refl (ap (λ r. fileLength (cellsOf r)) (sym run-read)) long)))
+      (sound (agrees refl (ap (λ r. fileLength (bytesFor r)) (sym run-read)) long)))
       (rw run-read (cells-pass b n (le-refl n)))

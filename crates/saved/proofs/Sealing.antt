@@ -7,15 +7,13 @@ use native.Mathlib.Nat.{add-zero, le-of-eq}
 use native.Mathlib.Omega.{arith}
 use lib.ListN.{length, getD, take, drop, length-take, length-drop, take-append-drop}
 use lib.Seq.{getD-take, getD-drop, take-all, take-add, drop-at, take-at}
-use Rattle.scope.specs.Run.{UpTo}
-use Rattle.blocks.specs.Block.{four, fourAt, checkOf, filled, sealed, blockOf, contents, allZero, blockTests}
+use Rattle.fileblocks.specs.FileBlock.{fileBlockBytes, contentBytes, checkAt, Bytes, four, fourAt, checkOf, filled, sealed, fileBlockOf, contents, allZero, fileBlockTests}
 use borrow.Author.Tests.{not-false}
 use Rattle.scope.proofs.Judged.{Passes, sound, both}
 use Rattle.scope.proofs.Limits.{passes-first, passes-then, passes-when}
-use Rattle.blocks.proofs.Filling.{all-zero-behind, all-zero-replicate}
+use Rattle.fileblocks.proofs.Filling.{all-zero-behind, all-zero-replicate}
 use Rattle.saved.proofs.Bytes.{bytes-take, bytes-drop, bytes-append, bytes-four, bytes-filled, check-small}
-use Rattle.blocks.proofs.Block.{length-four, length-filled, length-front, check-front}
-use Rattle.blocks.proofs.Differs.{sealed-right}
+use Rattle.fileblocks.proofs.FileBlock.{length-four, length-filled, length-front, check-front, sealed-right}
 
 -- a number that was written is read
 pub four-read : (n : ℕ) (rest : List ℕ) → n < 4294967296 → fourAt (four n ++ rest) 0 ≡ n
@@ -35,7 +33,7 @@ four-of {a} {b} {c} {d} ha hb hc hd =
     let e₃ : d % 256 ≡ d = omega arith in
     rw (low (b + 256 * (c + 256 * d)) ha, high (b + 256 * (c + 256 * d)) ha, low (c + 256 * d) hb, high (c + 256 * d) hb, low d hc, high d hc, e₃)
 
-four-there : (l : List ℕ) → length l ≡ 4 → UpTo 255 l → four (fourAt l 0) ≡ l
+four-there : (l : List ℕ) → length l ≡ 4 → Bytes l → four (fourAt l 0) ≡ l
 unfolding fourAt
 four-there (a ∷ b ∷ c ∷ d ∷ []) e h = four-of (h 0) (h 1) (h 2) (h 3)
 four-there [] e h = absurd (omega arith)
@@ -52,66 +50,66 @@ pub four-drop : (l : List ℕ) (k n : ℕ) → 4 ≤ n → fourAt (take n (drop 
 unfolding fourAt
 four-drop l k n h = rw (byte-at l k n 0 (omega arith), byte-at l k n 1 (omega arith), byte-at l k n 2 (omega arith), byte-at l k n 3 (omega arith), add-zero k)
 
-pub four-back : (l : List ℕ) (k : ℕ) → UpTo 255 l → k + 4 ≤ length l → take 4 (drop k l) ≡ four (fourAt l k)
+pub four-back : (l : List ℕ) (k : ℕ) → Bytes l → k + 4 ≤ length l → take 4 (drop k l) ≡ four (fourAt l k)
 four-back l k b h = sym (ap four (sym (four-drop l k 4 (omega arith))) ∙ four-there (take 4 (drop k l)) (simp (length-take, length-drop) (omega arith)) (bytes-take 4 (drop k l) (bytes-drop k l b)))
 
 -- the parts of a block that is laid down
 module _ (k : ℕ) (bytes : List ℕ) where
-  pub block-contents : contents (blockOf k bytes) ≡ filled bytes
-  unfolding contents blockOf sealed
-  block-contents =
-      ap (λ l. take 504 (drop 4 l)) (append-assoc (four k) (filled bytes) (four (checkOf (four k ++ filled bytes))))
-      ∙ ap (take 504) (drop-at (four k) (filled bytes ++ four (checkOf (four k ++ filled bytes))) 4 (length-four k))
-      ∙ take-at (filled bytes) (four (checkOf (four k ++ filled bytes))) 504 (length-filled bytes)
+  pub file-block-contents : contents (fileBlockOf k bytes) ≡ filled bytes
+  unfolding contents fileBlockOf sealed
+  file-block-contents =
+      ap (λ l. take contentBytes (drop 4 l)) (append-assoc (four k) (filled bytes) (four (checkOf (four k ++ filled bytes))))
+      ∙ ap (take contentBytes) (drop-at (four k) (filled bytes ++ four (checkOf (four k ++ filled bytes))) 4 (length-four k))
+      ∙ take-at (filled bytes) (four (checkOf (four k ++ filled bytes))) contentBytes (length-filled bytes)
 
-  block-number : k < 4294967296 → fourAt (blockOf k bytes) 0 ≡ k
-  unfolding blockOf sealed
-  block-number h =
+  file-block-number : k < 4294967296 → fourAt (fileBlockOf k bytes) 0 ≡ k
+  unfolding fileBlockOf sealed
+  file-block-number h =
       ap (λ l. fourAt l 0) (append-assoc (four k) (filled bytes) (four (checkOf (four k ++ filled bytes))))
       ∙ four-read k (filled bytes ++ four (checkOf (four k ++ filled bytes))) h
 
-  block-check : UpTo 255 bytes → fourAt (blockOf k bytes) 508 ≡ checkOf (blockOf k bytes)
-  unfolding blockOf sealed
-  block-check b =
+  file-block-check : Bytes bytes → fourAt (fileBlockOf k bytes) checkAt ≡ checkOf (fileBlockOf k bytes)
+  unfolding fileBlockOf sealed
+  file-block-check b =
       let front = four k ++ filled bytes in
       let check = checkOf front in
       let small = check-small front (bytes-append (four k) (filled bytes) (bytes-four k) (bytes-filled bytes b)) in
-      sym (four-drop (front ++ four check) 508 4 (omega arith))
-      ∙ ap (λ l. fourAt (take 4 l) 0) (drop-at front (four check) 508 (length-front k bytes))
+      sym (four-drop (front ++ four check) checkAt 4 (omega arith))
+      ∙ ap (λ l. fourAt (take 4 l) 0) (drop-at front (four check) checkAt (length-front k bytes))
       ∙ ap (λ l. fourAt l 0) (take-all 4 (four check) (le-of-eq (length-four check)) ∙ sym (append-nil (four check)))
       ∙ four-read check [] small
       ∙ sym (check-front front (four check) (length-front k bytes))
 
-  block-filling : (size : ℕ) → length bytes ≤ size → allZero (drop size (filled bytes)) ≡ true
+  file-block-filling : (size : ℕ) → length bytes ≤ size → allZero (drop size (filled bytes)) ≡ true
   unfolding filled
-  block-filling size l = all-zero-behind size (take 504 bytes) (504 - length bytes) (simp length-take (omega arith))
+  file-block-filling size l = all-zero-behind size (take contentBytes bytes) (contentBytes - length bytes) (simp length-take (omega arith))
 
-  pub block-passes : (size : ℕ) → k < 4294967296 → UpTo 255 bytes → length bytes ≤ size → Passes (blockTests k size (blockOf k bytes))
-  unfolding blockTests
-  block-passes size h b l =
+  pub file-block-passes : (size : ℕ) → k < 4294967296 → Bytes bytes → length bytes ≤ size → Passes (fileBlockTests k size (fileBlockOf k bytes))
+  unfolding fileBlockTests
+  file-block-passes size h b l =
       both
-      (sound (ap not (sealed-right k (blockOf k bytes) .1 (block-number h, block-check b))))
-      (sound (ap (λ x. not (allZero (drop size x))) block-contents ∙ ap not (block-filling size l)))
+      (sound (ap not (sealed-right k (fileBlockOf k bytes) .1 (file-block-number h, file-block-check b))))
+      (sound (ap (λ x. not (allZero (drop size x))) file-block-contents ∙ ap not (file-block-filling size l)))
 
 -- bytes whose rest is zero are their front, filled up
-filled-front : (l : List ℕ) (size : ℕ) → length l ≡ 504 → allZero (drop size l) ≡ true → l ≡ filled (take size l)
+filled-front : (l : List ℕ) (size : ℕ) → length l ≡ contentBytes → allZero (drop size l) ≡ true → l ≡ filled (take size l)
 unfolding filled
 filled-front l size e z =
-    let short : length (take size l) ≤ 504 = simp length-take (omega arith) in
-    let rest : length (drop size l) ≡ 504 - length (take size l) = simp (length-drop, length-take) (omega arith) in
-    sym (take-append-drop size l) ∙ rw (take-all 504 (take size l) short, ← rest, ← all-zero-replicate (drop size l) z)
+    let short : length (take size l) ≤ contentBytes = simp length-take (omega arith) in
+    let rest : length (drop size l) ≡ contentBytes - length (take size l) = simp (length-drop, length-take) (omega arith) in
+    sym (take-append-drop size l) ∙ rw (take-all contentBytes (take size l) short, ← rest, ← all-zero-replicate (drop size l) z)
 
 -- a block that passes is the block that is laid down
-pub block-is : (k size : ℕ) (block : List ℕ) → length block ≡ 512 → UpTo 255 block → Passes (blockTests k size block) → block ≡ blockOf k (take size (contents block))
-unfolding blockTests blockOf sealed contents
-block-is k size block l b p =
+pub file-block-is : (k size : ℕ) (block : List ℕ) → length block ≡ fileBlockBytes → Bytes block → Passes (fileBlockTests k size block) → block ≡ fileBlockOf k (take size (contents block))
+unfolding fileBlockTests fileBlockOf sealed contents
+file-block-is k size block l b p =
     let (number, check) = sealed-right k block .0 (not-false _ (passes-when (passes-first p))) in
-    let inner : length (take 504 (drop 4 block)) ≡ 504 = simp (length-take, length-drop) (omega arith) in
+    let inner : length (take contentBytes (drop 4 block)) ≡ contentBytes = simp (length-take, length-drop) (omega arith) in
     let held = filled-front (contents block) size inner (not-false _ (passes-when (passes-then p))) in
-    let front : take 508 block ≡ four k ++ filled (take size (contents block)) =
-    take-add 4 504 block ∙ ap (λ l. l ++ contents block) (four-back block 0 b (omega arith) ∙ ap four number) ∙ ap (λ l. four k ++ l) held in
+    let front : take checkAt block ≡ four k ++ filled (take size (contents block)) =
+    take-add 4 contentBytes block ∙ ap (λ l. l ++ contents block) (four-back block 0 b (omega arith) ∙ ap four number) ∙ ap (λ l. four k ++ l) held in
     let sum : checkOf block ≡ checkOf (four k ++ filled (take size (contents block))) =
-    ap checkOf (sym (take-append-drop 508 block)) ∙ check-front (take 508 block) (drop 508 block) (simp length-take (omega arith)) ∙ ap checkOf front in
-    let behind : drop 508 block ≡ four (checkOf (four k ++ filled (take size (contents block)))) =
-    sym (take-all 4 (drop 508 block) (simp length-drop (omega arith))) ∙ four-back block 508 b (omega arith) ∙ ap four (check ∙ sum) in
-    sym (take-append-drop 508 block) ∙ ap (λ l. l ++ drop 508 block) front ∙ ap (λ l. four k ++ filled (take size (contents block)) ++ l) behind
+    ap checkOf (sym (take-append-drop checkAt block)) ∙ check-front (take checkAt block) (drop checkAt block) (simp length-take (omega arith)) ∙ ap checkOf front in
+    let behind : drop checkAt block ≡ four (checkOf (four k ++ filled (take size (contents block)))) =
+    sym (take-all 4 (drop checkAt block) (simp length-drop (omega arith))) ∙ four-back block checkAt b (omega arith) ∙ ap four (check ∙ sum) in
+    sym (take-append-drop checkAt block) ∙ ap (λ l. l ++ drop checkAt block) front ∙ ap (λ l. four k ++ filled (take size (contents block)) ++ l) behind

@@ -1,22 +1,25 @@
 // The saved map of document 01: a file of blocks of 512 bytes, each with its number before its contents and its check behind.
 // Every function is proved. `save` and `read` are the public operations; the others are inner steps of these.
-use blocks::BLOCK;
-use blocks::copy;
-use blocks::four_at;
-use blocks::judge_block;
-use blocks::put_four;
-use blocks::write_block;
-use blocks::zeros_from;
+use fileblocks::CONTENT_AT;
+use fileblocks::CONTENT_BYTES;
+use fileblocks::FILE_BLOCK_BYTES;
+use fileblocks::copy;
+use fileblocks::four_at;
+use fileblocks::judge_file_block;
+use fileblocks::put_four;
+use fileblocks::write_file_block;
+use fileblocks::zeros_from;
 use scope::Run;
 use scope::Verdict;
 ghost use mathlib.Core.Path.{_≡_};
 ghost use Prim.Native.Nat.{min, _+_, _*_, _≤_, _<_, _^_};
 ghost use lib.ListN.{length, take};
+ghost use Rattle.scope.specs.Run.{ValidRun};
 ghost use Rattle.scope.specs.Refusal.{complaint};
 ghost use Rattle.scope.specs.Reply.{reply};
 ghost use Rattle.scope.specs.InnerVerdict.{verdict};
-ghost use Rattle.blocks.specs.Block.{four, blockOf};
-ghost use Rattle.saved.specs.File.{heading, cellBlocks, blocksFor, fileLength, runOf, bytesIn, headingTests, cellBlocksTests, fileTests};
+ghost use Rattle.fileblocks.specs.FileBlock.{fileBlockBytes, four, fileBlockOf};
+ghost use Rattle.saved.specs.File.{heading, laterFileBlocks, fileBlocksFor, fileLength, bytesFor, runOf, bytesIn, headingTests, laterFileBlocksTests, fileTests};
 ghost use Rattle.saved.specs.Promise.{saysReading, SavingPromise, ReadingPromise};
 
 // What saving a map came to.
@@ -35,8 +38,8 @@ pub enum Loaded {
     Refused(u8),
 }
 
-// So many bytes of a block are its contents, from byte 4 on.
-const CONTENTS: usize = 504;
+// Block 0 holds so many bytes: the version, three spare bytes and the run's four numbers.
+const HEADING_BYTES: usize = 20;
 
 // The smaller of two numbers.
 fn least(a: usize, b: usize) -> usize
@@ -45,40 +48,48 @@ fn least(a: usize, b: usize) -> usize
     if a < b { a } else { b }
 }
 
-// Inner step. How long the file of so many bytes of cells is: block 0, and a block for each 504 begun.
-pub fn file_length(size: u64) -> u64
+// How many bytes the cells of a run within the limits are: a cell is one byte.
+fn bytes_for(run: Run) -> u64
+    requires { ⌜ ValidRun run ⌝ }
+    ensures { λ r. ⌜ r ≡ bytesFor run ⌝ }
+{
+    scope::cells(run)
+}
+
+// How long the file of so many bytes of cells is: block 0, and a file block for each 504 begun.
+fn file_length(size: u64) -> u64
     requires { ⌜ size < 2 ^ 37 ⌝ }
     ensures { λ r. ⌜ r ≡ fileLength size ⌝ }
 {
-    512 * (1 + (size + 503) / 504)
+    FILE_BLOCK_BYTES as u64 * (1 + (size + (CONTENT_BYTES as u64 - 1)) / CONTENT_BYTES as u64)
 }
 
 // Writes block 0: the version, three spare bytes and the run's four numbers, as the twenty bytes that it holds.
 fn write_heading(run: Run, block: &mut [u8])
-    requires { ⌜ length (now block) ≡ 512 ⌝ }
-    ensures { λ _. ⌜ now (block .exit) ≡ blockOf 0 (heading run) ⌝ }
+    requires { ⌜ length (now block) ≡ fileBlockBytes ⌝ }
+    ensures { λ _. ⌜ now (block .exit) ≡ fileBlockOf 0 (heading run) ⌝ }
 {
-    let mut bytes = [0u8; 20];
+    let mut bytes = [0u8; HEADING_BYTES];
     bytes[0] = 1;
     put_four(&mut bytes[4..8], run.window);
     put_four(&mut bytes[8..12], run.interval);
     put_four(&mut bytes[12..16], run.first);
-    put_four(&mut bytes[16..20], run.last);
-    write_block(0, &bytes, block);
+    put_four(&mut bytes[16..HEADING_BYTES], run.last);
+    write_file_block(0, &bytes, block);
 }
 
-// Inner step. Writes the blocks after block 0: 504 cells each, the last perhaps with fewer. Each turn writes one whole block.
-pub fn write_cells(map: &[u8], room: &mut [u8])
-    requires { ⌜ (length (now map) < 2 ^ 37) × (length (now room) ≡ 512 * blocksFor (length (now map))) ⌝ }
-    ensures { λ _. ⌜ now (room .exit) ≡ cellBlocks (now (map .entry)) (blocksFor (length (now (map .entry)))) ⌝ }
+// Writes the blocks after block 0: 504 cells each, the last perhaps with fewer. Each turn writes one whole block.
+fn write_cells(map: &[u8], room: &mut [u8])
+    requires { ⌜ (length (now map) < 2 ^ 37) × (length (now room) ≡ fileBlockBytes * fileBlocksFor (length (now map))) ⌝ }
+    ensures { λ _. ⌜ now (room .exit) ≡ laterFileBlocks (now (map .entry)) (fileBlocksFor (length (now (map .entry)))) ⌝ }
 {
     let mut k: usize = 0;
-    while CONTENTS * k < map.len() {
-        let from = CONTENTS * k;
-        let end = least(from + CONTENTS, map.len());
-        let at = BLOCK * k;
-        let next = at + BLOCK;
-        write_block((k + 1) as u32, &map[from..end], &mut room[at..next]);
+    while CONTENT_BYTES * k < map.len() {
+        let from = CONTENT_BYTES * k;
+        let end = least(from + CONTENT_BYTES, map.len());
+        let at = FILE_BLOCK_BYTES * k;
+        let next = at + FILE_BLOCK_BYTES;
+        write_file_block((k + 1) as u32, &map[from..end], &mut room[at..next]);
         k += 1;
     }
 }
@@ -96,21 +107,22 @@ pub fn save(run: Run, map: &[u8], file: &mut [u8]) -> Saved
     if map.len() as u64 != cells {
         return Saved::Refused(9);
     }
-    if file.len() as u64 != file_length(cells) {
+    let size = bytes_for(run);
+    if file.len() as u64 != file_length(size) {
         return Saved::Refused(9);
     }
     let end = file.len();
-    write_heading(run, &mut file[0..BLOCK]);
-    write_cells(map, &mut file[BLOCK..end]);
+    write_heading(run, &mut file[0..FILE_BLOCK_BYTES]);
+    write_cells(map, &mut file[FILE_BLOCK_BYTES..end]);
     Saved::Done
 }
 
 // What 01's table says of block 0: as of every block, then its version and its spare bytes.
 fn judge_heading(block: &[u8]) -> Verdict
-    requires { ⌜ length (now block) ≡ 512 ⌝ }
+    requires { ⌜ length (now block) ≡ fileBlockBytes ⌝ }
     ensures { λ r. ⌜ r ≡ verdict (complaint (headingTests (now (block .entry)))) ⌝ }
 {
-    if let Verdict::Refused(number) = judge_block(0, 20, block) {
+    if let Verdict::Refused(number) = judge_file_block(0, HEADING_BYTES, block) {
         return Verdict::Refused(number);
     }
     if block[4] != 1 {
@@ -125,15 +137,15 @@ fn judge_heading(block: &[u8]) -> Verdict
 // What 01's table says of the blocks after block 0, in order, if they are to hold `size` bytes of cells.
 fn judge_cells(size: usize, file: &[u8]) -> Verdict
     requires { ⌜ (size < 2 ^ 37) × (length (now file) ≡ fileLength size) ⌝ }
-    ensures { λ r. ⌜ r ≡ verdict (complaint (cellBlocksTests size (now (file .entry)) (blocksFor size))) ⌝ }
+    ensures { λ r. ⌜ r ≡ verdict (complaint (laterFileBlocksTests size (now (file .entry)) (fileBlocksFor size))) ⌝ }
 {
     let mut k: usize = 0;
-    while CONTENTS * k < size {
-        let at = BLOCK * (k + 1);
-        let next = at + BLOCK;
-        if let Verdict::Refused(number) = judge_block(
+    while CONTENT_BYTES * k < size {
+        let at = FILE_BLOCK_BYTES * (k + 1);
+        let next = at + FILE_BLOCK_BYTES;
+        if let Verdict::Refused(number) = judge_file_block(
             (k + 1) as u32,
-            size - CONTENTS * k,
+            size - CONTENT_BYTES * k,
             &file[at..next],
         ) {
             return Verdict::Refused(number);
@@ -143,8 +155,8 @@ fn judge_cells(size: usize, file: &[u8]) -> Verdict
     Verdict::Fine
 }
 
-// Inner step. The run that block 0 tells.
-pub fn run_of(file: &[u8]) -> Run
+// The run that block 0 tells.
+fn run_of(file: &[u8]) -> Run
     requires { ⌜ 24 ≤ length (now file) ⌝ }
     ensures { λ r. ⌜ r ≡ runOf (now (file .entry)) ⌝ }
 {
@@ -161,24 +173,24 @@ pub fn run_of(file: &[u8]) -> Run
 fn judge_file(file: &[u8]) -> Loaded
     ensures { λ r. ⌜ saysReading r ≡ reply (complaint (fileTests (now (file .entry)))) (runOf (now (file .entry))) ⌝ }
 {
-    if file.len() % BLOCK != 0 {
+    if file.len() % FILE_BLOCK_BYTES != 0 {
         return Loaded::Refused(13);
     }
     if file.len() == 0 {
         return Loaded::Refused(13);
     }
-    if let Verdict::Refused(number) = judge_heading(&file[0..BLOCK]) {
+    if let Verdict::Refused(number) = judge_heading(&file[0..FILE_BLOCK_BYTES]) {
         return Loaded::Refused(number);
     }
     let run = run_of(file);
     if let Verdict::Refused(number) = scope::judge_run(run) {
         return Loaded::Refused(number);
     }
-    let cells = scope::cells(run);
-    if file_length(cells) != file.len() as u64 {
+    let size = bytes_for(run);
+    if file_length(size) != file.len() as u64 {
         return Loaded::Refused(13);
     }
-    if let Verdict::Refused(number) = judge_cells(cells as usize, file) {
+    if let Verdict::Refused(number) = judge_cells(size as usize, file) {
         return Loaded::Refused(number);
     }
     Loaded::Of(run)
@@ -187,13 +199,13 @@ fn judge_file(file: &[u8]) -> Loaded
 // Fills a map with the cells that the blocks after block 0 hold: 504 a block, of the last as many as are left.
 fn load(file: &[u8], map: &mut [u8])
     requires { ⌜ (length (now map) < 2 ^ 37) × (length (now file) ≡ fileLength (length (now map))) ⌝ }
-    ensures { λ _. ⌜ now (map .exit) ≡ take (length (now (map .entry))) (bytesIn (now (file .entry)) (blocksFor (length (now (map .entry))))) ⌝ }
+    ensures { λ _. ⌜ now (map .exit) ≡ take (length (now (map .entry))) (bytesIn (now (file .entry)) (fileBlocksFor (length (now (map .entry))))) ⌝ }
 {
     let mut k: usize = 0;
-    while CONTENTS * k < map.len() {
-        let from = CONTENTS * k;
-        let end = least(from + CONTENTS, map.len());
-        let at = BLOCK * (k + 1) + 4;
+    while CONTENT_BYTES * k < map.len() {
+        let from = CONTENT_BYTES * k;
+        let end = least(from + CONTENT_BYTES, map.len());
+        let at = FILE_BLOCK_BYTES * (k + 1) + CONTENT_AT;
         let next = at + (end - from);
         copy(&file[at..next], &mut map[from..end]);
         k += 1;

@@ -4,7 +4,7 @@ use mathlib.Core.Path.{_≡_, refl, sym, ap, _∙_}
 use mathlib.Core.Bool.{Bool, true, false}
 use mathlib.Core.Option.{Option, some, none}
 use native.Mathlib.Omega.{arith}
-use Rattle.scope.specs.Refusal.{Reason, Window, Lines, Interval, Period, Remainder, WiderThanPeriod, Weight, Start, Room, Lists, Text, TooMany, Blocks, Check, Layout, call, listed, Complaint, Tests, _when_, _andThen_, ofSource, nothing, complaint, number}
+use Rattle.scope.specs.Refusal.{Reason, Window, Lines, Interval, Period, Remainder, WiderThanPeriod, Weight, Start, Room, Lists, Text, TooMany, FileBlocks, Check, Layout, call, listed, Complaint, Tests, _when_, _andThen_, ofSource, nothing, complaint, number}
 use Rattle.scope.specs.Reply.{refused, answered, reply, stored}
 use Rattle.scope.specs.InnerVerdict.{verdict}
 use Rattle.scope.specs.declared.Verdict.{Verdict}
@@ -121,7 +121,7 @@ number-some Room = omega arith
 number-some Lists = omega arith
 number-some Text = omega arith
 number-some TooMany = omega arith
-number-some Blocks = omega arith
+number-some FileBlocks = omega arith
 number-some Check = omega arith
 number-some Layout = omega arith
 

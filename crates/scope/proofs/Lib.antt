@@ -4,3 +4,6 @@ pub mod Verdicts
 pub mod Limits
 pub mod Numbering
 pub mod Hits
+pub mod Differs
+pub mod Rendered
+pub mod Table

@@ -2,4 +2,6 @@ pub mod Run
 pub mod Hit
 pub mod Refusal
 pub mod Reply
+pub mod Table
 pub mod InnerVerdict
+pub mod InnerBlock

@@ -33,7 +33,7 @@ pub data Reason : Type 0 where
   -- "text: more than 64 sources, or a run of more than 65,536 cells"
   TooMany : Reason
   -- "saved file: no whole number of blocks, none, or not as many as its run needs"
-  Blocks : Reason
+  FileBlocks : Reason
   -- "saved file: wrong block number or check"
   Check : Reason
   -- "saved file: version, spare byte or filling not as laid down"
@@ -53,7 +53,7 @@ number Room = 9
 number Lists = 10
 number Text = 11
 number TooMany = 12
-number Blocks = 13
+number FileBlocks = 13
 number Check = 14
 number Layout = 15
 
@@ -128,8 +128,8 @@ periodTests period =
 unfoldable pub sourceTests : Source → Tests
 sourceTests source = periodTests (source .period)
 
--- "7: weight 0 or above 255", of any ceiling.
+-- "7: weight 0 or above 255", of any ceiling c.
 unfoldable pub weightTests : ℕ → ℕ → Tests
-weightTests ceiling weight =
+weightTests c weight =
     Weight when eqb weight 0 andThen
-    Weight when ltb ceiling weight
+    Weight when ltb c weight

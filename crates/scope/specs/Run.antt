@@ -2,14 +2,17 @@
 use Prim.Native.Nat.{ℕ, suc, _+_, _-_, _*_, _/_, _%_, _≤_, _<_}
 use mathlib.Core.Path.{_≡_}
 use mathlib.Core.Logic.{_⊎_}
-use mathlib.Core.List.{List}
 use lib.IntN.{ℤ, pos, negℤ, _+ℤ_, _-ℤ_, _*ℤ_}
 use lib.Signed.{_≤ℤ_, _<ℤ_}
-use lib.ListN.{getD}
+pub use Rattle.rooms.specs.Lists.{UpTo}
 use Rattle.scope.specs.declared.Run.{Run}
 use Rattle.scope.specs.declared.Source.{Source}
 use Rattle.scope.specs.declared.RunCell.{RunCell}
 use Rattle.scope.specs.declared.BlockCell.{BlockCell}
+
+-- "run I T first last": the run with these four numbers.
+abbrev pub runWith : (window interval first last : ℕ) → Run
+runWith window interval first last = record { window = window; interval = interval; first = first; last = last }
 
 -- The table of ranges: "window I: even, 2 to 4,096; interval T: 1 to 4,294,967,295; lines: first ≥ 1, last ≥ first, last ≤ 16,777,216".
 pub record ValidRun (run : Run) : Type 0 where
@@ -27,9 +30,9 @@ pub record ValidSource (source : Source) : Type 0 where
   pub ticks : 1 ≤ source .period
   pub fits : source .period ≤ 2147483647
 
--- The same table: "map cell: one byte". No number of the list is above the ceiling; of bytes that is 255.
-abbrev pub UpTo : ℕ → List ℕ → Type 0
-UpTo ceiling numbers = (k : ℕ) → getD numbers k 0 ≤ ceiling
+-- The same table: "weight: 1 to 255"; and "the smaller of 255 and old value + weights". No weight and no cell of a map is above it.
+abbrev pub ceiling : ℕ
+ceiling = 255
 
 -- "a first line and a last line": both belong to the run.
 unfoldable pub linesOf : Run → ℕ
@@ -62,13 +65,6 @@ offsetOf run x = pos (x % run .window) -ℤ pos (run .window / 2)
 abbrev pub Before : Run → ℕ → ℕ → Type 0
 Before run x y = (lineOf run x < lineOf run y) ⊎ ((lineOf run x ≡ lineOf run y) × (offsetOf run x <ℤ offsetOf run y))
 
--- "A block is a run with the same window and interval and a part of the lines."
-pub record IsBlock (run block : Run) : Type 0 where
-  pub window : block .window ≡ run .window
-  pub interval : block .interval ≡ run .interval
-  pub from : run .first ≤ block .first
-  pub to : block .last ≤ run .last
-
 -- "(block's first line - run's first line)·I": what turns a block's cell number into the run's.
 unfoldable pub shiftOf : Run → Run → ℕ
 shiftOf run block = (block .first - run .first) * run .window
@@ -76,7 +72,3 @@ shiftOf run block = (block .first - run .first) * run .window
 -- "one becomes the other only by adding .. (block's first line - run's first line)·I": a block's cell as the run's.
 abbrev pub toRun : Run → Run → BlockCell → RunCell
 toRun run block cell = record { 0 = cell .0 + shiftOf run block }
-
--- ".. or taking away": the run's cell as the block's.
-abbrev pub toBlock : Run → Run → RunCell → BlockCell
-toBlock run block cell = record { 0 = cell .0 - shiftOf run block }

@@ -2,10 +2,13 @@
 // Every function is proved. No function here is a public operation: each is an inner step of the crates above.
 ghost use mathlib.Core.Path.{_≡_};
 ghost use Prim.Native.Nat.{_≤_};
-ghost use Rattle.scope.specs.Run.{ValidRun, IsBlock, cellsOf, shiftOf, toRun, toBlock};
+ghost use Rattle.scope.specs.Run.{ValidRun, cellsOf, shiftOf, toRun};
+ghost use Rattle.scope.specs.InnerBlock.{IsBlock, toBlock};
 ghost use Rattle.scope.specs.Refusal.{complaint, windowTests, lineTests, runTests, periodTests, sourceTests};
-ghost use Rattle.scope.specs.InnerVerdict.{verdict};
-ghost use Rattle.scope.specs.InnerVerdict.{firstOf};
+ghost use Rattle.scope.specs.InnerVerdict.{firstOf, verdict};
+
+// What a weight, and a cell of a map, is at most: `ceiling` of the specs. A cell is as wide as this number.
+pub const CEILING: u8 = 255;
 
 // A run: the window's width and the interval in ticks, the first and the last line.
 pub struct Run {

@@ -17,9 +17,9 @@ entriesOf (period ∷ periods) (weight ∷ weights) = record { source = record {
 
 -- "4 before 7", of one entry.
 unfoldable pub entryTests : ℕ → Entry → Tests
-entryTests ceiling entry = periodTests (entry .source .period) andThen weightTests ceiling (entry .weight)
+entryTests c entry = periodTests (entry .source .period) andThen weightTests c (entry .weight)
 
 -- "source by source", the first of them at place k.
 unfoldable pub listTests : ℕ → ℕ → List Entry → Tests
-listTests ceiling k [] = nothing
-listTests ceiling k (entry ∷ entries) = ofSource k (entryTests ceiling entry) andThen listTests ceiling (suc k) entries
+listTests c k [] = nothing
+listTests c k (entry ∷ entries) = ofSource k (entryTests c entry) andThen listTests c (suc k) entries

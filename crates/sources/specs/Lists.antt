@@ -14,13 +14,13 @@ unfoldable pub weightsOf : List Entry → List ℕ
 weightsOf [] = []
 weightsOf (entry ∷ entries) = entry .weight ∷ weightsOf entries
 
--- The table of ranges, of one entry: "weight: 1 to 255", of any ceiling.
-pub record ValidEntry (ceiling : ℕ) (e : Entry) : Type 0 where
+-- The table of ranges, of one entry: "weight: 1 to 255", of any ceiling c.
+pub record ValidEntry (c : ℕ) (e : Entry) : Type 0 where
   pub source : ValidSource (e .source)
   pub some : 1 ≤ e .weight
-  pub fits : e .weight ≤ ceiling
+  pub fits : e .weight ≤ c
 
 -- Every entry is within the limits.
 abbrev pub ValidEntries : ℕ → List Entry → Type 0
-ValidEntries ceiling [] = Unit {0}
-ValidEntries ceiling (entry ∷ entries) = ValidEntry ceiling entry × ValidEntries ceiling entries
+ValidEntries c [] = Unit {0}
+ValidEntries c (entry ∷ entries) = ValidEntry c entry × ValidEntries c entries

@@ -1,21 +1,23 @@
 // Lists of sources: a list of periods with a list of weights, and the tests that every list passes before it is used.
 // Every function is proved. The public one is an inner step of the crates above.
+use scope::CEILING;
 use scope::Verdict;
 use scope::first_of;
 ghost use mathlib.Core.Path.{_≡_};
 ghost use lib.ListN.{length};
 ghost use Rattle.sources.specs.Entry.{entriesOf, entryTests, listTests};
+ghost use Rattle.scope.specs.Run.{ceiling};
 ghost use Rattle.scope.specs.Refusal.{complaint, weightTests};
 ghost use Rattle.scope.specs.InnerVerdict.{verdict};
 
 // What 01's table says of a weight.
 fn judge_weight(weight: u32) -> Verdict
-    ensures { λ r. ⌜ r ≡ verdict (complaint (weightTests 255 weight)) ⌝ }
+    ensures { λ r. ⌜ r ≡ verdict (complaint (weightTests ceiling weight)) ⌝ }
 {
     if weight == 0 {
         return Verdict::Refused(7);
     }
-    if 255 < weight {
+    if (CEILING as u32) < weight {
         return Verdict::Refused(7);
     }
     Verdict::Fine
@@ -23,7 +25,7 @@ fn judge_weight(weight: u32) -> Verdict
 
 // What it says of a source of a list: of its period first, then of its weight.
 fn judge_entry(period: u32, weight: u32) -> Verdict
-    ensures { λ r. ⌜ r ≡ verdict (complaint (entryTests 255 (record { source = record { period = period }; weight = weight }))) ⌝ }
+    ensures { λ r. ⌜ r ≡ verdict (complaint (entryTests ceiling (record { source = record { period = period }; weight = weight }))) ⌝ }
 {
     let of_period = scope::judge_period(period);
     let of_weight = judge_weight(weight);
@@ -33,7 +35,7 @@ fn judge_entry(period: u32, weight: u32) -> Verdict
 // Inner step. The first fault of the listed sources, in the order of the lists: a period comes before the weight beside it.
 pub fn judge_entries(periods: &[u32], weights: &[u32]) -> Verdict
     requires { ⌜ length (now periods) ≡ length (now weights) ⌝ }
-    ensures { λ r. ⌜ r ≡ verdict (complaint (listTests 255 1 (entriesOf (now (periods .entry)) (now (weights .entry))))) ⌝ }
+    ensures { λ r. ⌜ r ≡ verdict (complaint (listTests ceiling 1 (entriesOf (now (periods .entry)) (now (weights .entry))))) ⌝ }
 {
     let mut said = Verdict::Fine;
     let mut k = 0;

@@ -1,24 +1,27 @@
 -- What a text says, from the lines that were read in it, and which reply that makes. Assumes nothing.
-use Prim.Native.Nat.{ℕ, zero, suc, _-_, _≤_, _<_}
+use Prim.Native.Nat.{ℕ, _≤_, _<_}
 use native.Mathlib.Omega.{arith}
 use mathlib.Core.Path.{_≡_, refl, sym, ap, _∙_}
 use mathlib.Core.List.{List, [], _++_}
 use mathlib.Core.Option.{some, none}
-use lib.ListN.{length, take, drop, replicate}
-use lib.Seq.{take-at}
+use lib.ListN.{length, take, drop}
+use Rattle.rooms.specs.Lists.{zeros, padded}
+use Rattle.rooms.proofs.Lists.{length-zeros, padded-front, padded-is}
+use Rattle.words.specs.Inner.{Line, NoLine}
+use Rattle.words.specs.declared.Found.{Found}
+use Rattle.words.specs.declared.Found.the-variants.{Next, Refused}
+use Rattle.words.proofs.Lines.{line-split}
 use Rattle.scope.specs.declared.Run.{Run}
 use Rattle.scope.proofs.Judged.{Fails, Passes, refuse-reply, grant-reply, refuse-stored, grant-stored}
 use Rattle.sources.specs.Entry.{Entry, entriesOf}
 use Rattle.sources.specs.Lists.{periodsOf, weightsOf}
 use Rattle.sources.proofs.Entries.{entries-of, periods-length, weights-length}
 use Rattle.text.specs.Form.{runWord, runNumbers, srcLines, textOf, Content, Spells}
-use Rattle.text.specs.Promise.{Reads, textTests, handed, padded, refusal, TextPromise}
-use Rattle.text.specs.Inner.{NotOfForm, Line, NoLine, Lines, storedIn, LinesListed, NoLines, SourcesAt, LinesAt}
+use Rattle.text.specs.Promise.{Reads, textTests, handed, refusal, TextPromise}
+use Rattle.text.specs.Inner.{NotOfForm, Lines, storedIn, LinesListed, NoLines, SourcesAt, LinesAt}
 use Rattle.text.specs.declared.Input.{Input}
 use Rattle.text.specs.declared.Answer.the-variants.{Read}
-use Rattle.text.specs.declared.Found.{Found}
-use Rattle.text.specs.declared.Found.the-variants.{Next, Refused}
-use Rattle.text.proofs.Lines.{line-split, line-run}
+use Rattle.text.proofs.Lines.{line-run}
 use Rattle.text.proofs.Listing.{stored-fits}
 
 -- ---- what a text says
@@ -35,30 +38,30 @@ module _ {text : List ℕ} {run : Run} {at : ℕ} (l : Line text 0 runWord (runN
   unfolding textOf
   no-sources n content s =
       n .none (content .entries)
-      (record { small = s .allSmall; is = line-split runWord (runNumbers run) (runNumbers (content .run)) (drop at text) (srcLines (content .entries)) (sym (l .stands .is) ∙ s .spelled) .1 })
+      (record { small = record { periods = s .periodsSmall; weights = s .weightsSmall }; is = line-split runWord (runNumbers run) (runNumbers (content .run)) (drop at text) (srcLines (content .entries)) (sym (l .stands .is) ∙ s .spelled) .1 })
 
   pub has-form : {entries : List Entry} → length text ≤ 4096 → Lines text at entries → Spells text (record { run = run; entries = entries })
   unfolding textOf
   has-form h m =
-      record { spelled = l .stands .is ∙ rw (m .is); runSmall = l .small; allSmall = m .small; short = h }
+      record { spelled = l .stands .is ∙ rw (m .is); runSmall = l .small; periodsSmall = m .small .periods; weightsSmall = m .small .weights; short = h }
 
 -- what reading the `src` lines answers, after a line with four numbers
 pub all-lines : {text numbers : List ℕ} {at : ℕ} → Line text 0 runWord numbers at → length numbers ≡ 4 → length text ≤ 4096
     → (periods weights periods′ weights′ : List ℕ) (count : ℕ) (found : Found) → SourcesAt text at periods weights periods′ weights′ count found → LinesAt text numbers periods weights periods′ weights′ count found
 all-lines l h short periods weights periods′ weights′ count (Next end) s = record { short = short; at = _; runs = l; lists = s }
-all-lines l h short periods weights periods′ weights′ count (Refused n) s = (s .0, no-sources (line-run l h refl) (s .1 .none))
+all-lines l h short periods weights periods′ weights′ count (Refused n) s = (s .0, no-sources (line-run l h refl) (s .1))
 
 -- ---- the reply that it makes
 
 -- the refusal that was handed on
 pub refuses-form : {text : List ℕ} {n : ℕ} {input : Input} → Reads text none → NotOfForm n → input ≡ refusal n → TextPromise text input
-unfolding padded periodsOf weightsOf
+unfolding padded zeros periodsOf weightsOf
 refuses-form r f e =
     record { content = none; reads = r; says = rw (e, f); counts = rw e; periods = rw e; weights = rw e }
 
 pub refuses : {text : List ℕ} {content : Content} {n : ℕ} {input : Input} → Spells text content → Fails (textTests content) n
     → input ≡ refusal n → TextPromise text input
-unfolding padded periodsOf weightsOf
+unfolding padded zeros periodsOf weightsOf
 refuses {content = content} s f e =
     let empty : handed (some content) ≡ [] = sym (refuse-stored [] (content .entries) f) in
     record {
@@ -70,17 +73,12 @@ refuses {content = content} s f e =
       weights = rw (e, empty);
     }
 
-drop-zeros : (k n : ℕ) → drop {A = ℕ} k (replicate n 0) ≡ replicate (n - k) 0
-drop-zeros zero n = let e : n ≡ n - 0 = omega arith in ap (λ m. replicate m 0) e
-drop-zeros (suc k) zero = let e : 0 ≡ 0 - suc k = omega arith in ap (λ m. replicate m 0) e
-drop-zeros (suc k) (suc n) = let e : n - k ≡ suc n - suc k = omega arith in drop-zeros k n ∙ ap (λ m. replicate m 0) e
-
 -- the lists of 64 zeros, after the numbers were stored at their beginning
-padded-is : (numbers : List ℕ) (count : ℕ) → length numbers ≡ count → count ≤ 64 → storedIn numbers (replicate 64 0) ≡ padded numbers
-unfolding padded
-padded-is numbers count l h = stored-fits numbers (replicate 64 0) (omega arith) ∙ ap (λ rest. numbers ++ rest) (drop-zeros (length numbers) 64)
+stored-padded : (numbers : List ℕ) (count : ℕ) → length numbers ≡ count → count ≤ 64 → storedIn numbers (zeros 64) ≡ padded 64 numbers
+stored-padded numbers count l h =
+    stored-fits numbers (zeros 64) (omega (arith, length-zeros 64)) ∙ sym (padded-is 64 numbers)
 
-pub accepts : {text : List ℕ} {run : Run} {at count next : ℕ} {periods weights : List ℕ} (g : LinesListed text at (replicate 64 0) (replicate 64 0) periods weights count next)
+pub accepts : {text : List ℕ} {run : Run} {at count next : ℕ} {periods weights : List ℕ} (g : LinesListed text at (zeros 64) (zeros 64) periods weights count next)
     → count ≤ 64
     → Spells text (record { run = run; entries = g .entries }) → Passes (textTests (record { run = run; entries = g .entries }))
     → TextPromise text (record { answer = Read run; count = count; periods = periods; weights = weights })
@@ -91,20 +89,16 @@ accepts {run = run} {count = count} g h s p =
       reads = s;
       says = grant-reply run p;
       counts = sym (g .counted) ∙ ap length all;
-      periods = g .storesPeriods ∙ padded-is (periodsOf (g .entries)) count (periods-length (g .entries) ∙ g .counted) h ∙ ap (λ es. padded (periodsOf es)) all;
-      weights = g .storesWeights ∙ padded-is (weightsOf (g .entries)) count (weights-length (g .entries) ∙ g .counted) h ∙ ap (λ es. padded (weightsOf es)) all;
+      periods = g .storesPeriods ∙ stored-padded (periodsOf (g .entries)) count (periods-length (g .entries) ∙ g .counted) h ∙ ap (λ es. padded 64 (periodsOf es)) all;
+      weights = g .storesWeights ∙ stored-padded (weightsOf (g .entries)) count (weights-length (g .entries) ∙ g .counted) h ∙ ap (λ es. padded 64 (weightsOf es)) all;
     }
 
--- the numbers are the first of them
-first-stored : (numbers : List ℕ) (count : ℕ) → length numbers ≡ count → count ≤ 64 → take count (storedIn numbers (replicate 64 0)) ≡ numbers
-first-stored numbers count l h = ap (take count) (stored-fits numbers (replicate 64 0) (omega arith)) ∙ take-at numbers _ count l
-
 -- the parts of the lists that are judged are the entries
-pub entries-stored : {text : List ℕ} {at count next : ℕ} {periods weights : List ℕ} (g : LinesListed text at (replicate 64 0) (replicate 64 0) periods weights count next)
+pub entries-stored : {text : List ℕ} {at count next : ℕ} {periods weights : List ℕ} (g : LinesListed text at (zeros 64) (zeros 64) periods weights count next)
     → count ≤ 64 → entriesOf (take count periods) (take count weights) ≡ g .entries
 entries-stored {count = count} {periods = periods} {weights = weights} g h =
-    let p : take count periods ≡ periodsOf (g .entries) =
-    ap (take count) (g .storesPeriods) ∙ first-stored (periodsOf (g .entries)) count (periods-length (g .entries) ∙ g .counted) h in
-    let w : take count weights ≡ weightsOf (g .entries) =
-    ap (take count) (g .storesWeights) ∙ first-stored (weightsOf (g .entries)) count (weights-length (g .entries) ∙ g .counted) h in
+    let known : (numbers room : List ℕ) → room ≡ storedIn numbers (zeros 64) → length numbers ≡ count → take count room ≡ numbers =
+    λ numbers room e l. ap (take count) (e ∙ stored-padded numbers count l h) ∙ padded-front 64 count numbers l in
+    let p = known (periodsOf (g .entries)) periods (g .storesPeriods) (periods-length (g .entries) ∙ g .counted) in
+    let w = known (weightsOf (g .entries)) weights (g .storesWeights) (weights-length (g .entries) ∙ g .counted) in
     rw (p, w) (entries-of (g .entries))

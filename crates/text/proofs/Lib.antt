@@ -3,3 +3,4 @@ pub mod Listing
 pub mod Answers
 pub mod Says
 pub mod Unique
+pub mod Table

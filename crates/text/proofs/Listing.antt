@@ -1,16 +1,21 @@
 -- The `src` lines of a text, one after the other: what is passed joins what follows, and leaves a text only one way to go on.
 -- Each law adds one line behind those passed. Assumes nothing.
-use Prim.Native.Nat.{ℕ, _+_, _≤_, _<_}
+use Prim.Native.Nat.{ℕ, suc, _+_, _≤_, _<_}
 use native.Mathlib.Omega.{arith}
 use mathlib.Core.Path.{_≡_, refl, sym, ap, _∙_}
 use mathlib.Core.List.{List, [], _∷_, _++_, append-assoc, append-nil}
 use lib.ListN.{length, drop, set, length-append, length-drop, length-set, drop-of-length-le}
+use Rattle.rooms.specs.Lists.{UpTo}
+use Rattle.rooms.proofs.Lists.{up-to, up-to-none, up-to-cons}
+use Rattle.decimal.specs.Digits.{largest}
+use Rattle.words.specs.Line.{line}
+use Rattle.words.specs.Inner.{Spelled, Line, NoLine}
+use Rattle.words.proofs.Lines.{spelled-none, spelled-append, spelled-within, line-split}
 use Rattle.sources.specs.Entry.{Entry}
 use Rattle.sources.specs.Lists.{periodsOf, weightsOf}
 use Rattle.sources.proofs.Entries.{entry, periods-length, weights-length, periods-append, weights-append}
-use Rattle.text.specs.Form.{line, srcWord, srcNumbers, srcLines, AllSmall}
-use Rattle.text.specs.Inner.{Spelled, Line, NoLine, SourceStored, SourceFails, Lines, storedIn, LinesListed, NoLines, LinesFail}
-use Rattle.text.proofs.Lines.{spelled-none, spelled-append, spelled-within, line-split}
+use Rattle.text.specs.Form.{srcWord, srcNumbers, srcLines}
+use Rattle.text.specs.Inner.{SourceStored, ValidLines, Lines, storedIn, LinesListed, NoLines}
 
 -- ---- numbers stored from the front of a room on
 
@@ -42,16 +47,40 @@ src-lines-append [] b = refl
 src-lines-append (e ∷ a) b =
     ap (λ l. line srcWord (srcNumbers e) ++ l) (src-lines-append a b) ∙ sym (append-assoc (line srcWord (srcNumbers e)) (srcLines a) (srcLines b))
 
-all-small-append : (a b : List Entry) → AllSmall a → AllSmall b → AllSmall (a ++ b)
-all-small-append [] b s t = t
-all-small-append (e ∷ a) b s t = (s .0, all-small-append a b (s .1) t)
+-- ---- their numbers
+
+pub valid-none : ValidLines []
+unfolding periodsOf weightsOf
+valid-none = record { periods = up-to-none largest; weights = up-to-none largest }
+
+-- of a line and of the lines after it
+pub valid-line : (e : Entry) (entries : List Entry) → ValidLines (e ∷ entries) → UpTo largest (srcNumbers e) × ValidLines entries
+unfolding periodsOf weightsOf
+valid-line e entries v = (
+  up-to (srcNumbers e) (v .periods 0, (v .weights 0, tt)),
+  record { periods = λ k. v .periods (suc k); weights = λ k. v .weights (suc k) },
+)
+
+pub valid-cons : (e : Entry) (entries : List Entry) → UpTo largest (srcNumbers e) → ValidLines entries → ValidLines (e ∷ entries)
+unfolding periodsOf weightsOf
+valid-cons e entries u v =
+    record {
+      periods = up-to-cons (e .source .period) (periodsOf entries) (u 0) (v .periods);
+      weights = up-to-cons (e .weight) (weightsOf entries) (u 1) (v .weights);
+    }
+
+valid-append : (a b : List Entry) → ValidLines a → ValidLines b → ValidLines (a ++ b)
+valid-append [] b s t = t
+valid-append (e ∷ a) b s t = let v = valid-line e a s in valid-cons e (a ++ b) (v .0) (valid-append a b (v .1) t)
+
+-- ---- lines passed
 
 -- `count` lines are passed up to `next`, and their numbers are stored; where none can follow, none stand at `at`
 pub record Listing (text : List ℕ) (at : ℕ) (periods weights periods′ weights′ : List ℕ) (next count : ℕ) : Type 0 where
   pub entries : List Entry
   pub counted : length entries ≡ count
   pub far : count ≤ next
-  pub small : AllSmall entries
+  pub small : ValidLines entries
   pub stand : Spelled text at (srcLines entries) next
   pub refutes : NoLines text next → NoLines text at
   pub periodsLong : length periods′ ≡ length periods
@@ -66,7 +95,7 @@ listing-none text at periods weights =
       entries = [];
       counted = refl;
       far = omega arith;
-      small = tt;
+      small = valid-none;
       stand = spelled-none;
       refutes = λ n. n;
       periodsLong = refl;
@@ -86,7 +115,7 @@ line-long period weight = omega arith
 -- where the text has ended, no line is left
 pub lines-end : (text : List ℕ) (at : ℕ) → length text ≤ at → Lines text at []
 unfolding srcLines
-lines-end text at h = record { small = tt; is = drop-of-length-le text h }
+lines-end text at h = record { small = valid-none; is = drop-of-length-le text h }
 
 -- a line in front of lines
 module _ {text : List ℕ} {at period weight next : ℕ} (l : Line text at srcWord (period ∷ weight ∷ []) next) where
@@ -95,7 +124,7 @@ module _ {text : List ℕ} {at period weight next : ℕ} (l : Line text at srcWo
 
   pub line-joins : {entries : List Entry} → Lines text next entries → Lines text at (entry period weight ∷ entries)
   unfolding srcLines
-  line-joins m = record { small = (l .small, m .small); is = l .stands .is ∙ rw (m .is) }
+  line-joins {entries} m = record { small = valid-cons (entry period weight) entries (l .small) (m .small); is = l .stands .is ∙ rw (m .is) }
 
   pub line-refutes : NoLines text next → NoLines text at
   unfolding srcLines
@@ -105,7 +134,7 @@ module _ {text : List ℕ} {at period weight next : ℕ} (l : Line text at srcWo
       go [] m = not-ended text at (omega (arith, line-ends)) (m .is)
       go (e ∷ entries) m =
           n .none entries
-          (record { small = m .small .1; is = line-split srcWord _ (srcNumbers e) (drop next text) (srcLines entries) (sym (l .stands .is) ∙ m .is) .1 })
+          (record { small = valid-line e entries (m .small) .1; is = line-split srcWord _ (srcNumbers e) (drop next text) (srcLines entries) (sym (l .stands .is) ∙ m .is) .1 })
 
 -- where the text has not ended and no line stands, no lines do
 pub no-line : {text : List ℕ} {at : ℕ} → at < length text → NoLine text at srcWord 2 → NoLines text at
@@ -114,7 +143,7 @@ no-line {text} {at} h n = record { none = go }
   where
     go : (entries : List Entry) → Lines text at entries → ⊥
     go [] m = not-ended text at h (m .is)
-    go (e ∷ entries) m = n .none (srcNumbers e) (srcLines entries) refl (m .small .0) (m .is)
+    go (e ∷ entries) m = n .none (srcNumbers e) (srcLines entries) refl (valid-line e entries (m .small) .0) (m .is)
 
 -- ---- one line more
 
@@ -131,7 +160,7 @@ module _ {text : List ℕ} {at : ℕ} {periods weights periods′ weights′ : L
         entries = front ++ new;
         counted = length-append front new ∙ omega (arith, g .counted);
         far = omega (arith, g .far, line-ends l);
-        small = all-small-append front new (g .small) (l .small, tt);
+        small = valid-append front new (g .small) (valid-cons (entry (s .period) (s .weight)) [] (l .small) valid-none);
         stand = rw (src-lines-append front new, append-nil) (spelled-append (g .stand) (l .stands));
         refutes = λ n. g .refutes (line-refutes l n);
         periodsLong = ap length (s .storesPeriod) ∙ simp length-set (g .periodsLong);
@@ -152,16 +181,5 @@ module _ {text : List ℕ} {at : ℕ} {periods weights periods′ weights′ : L
       }
 
   -- the text goes on, and not with a line
-  pub listing-fails : {periods″ weights″ : List ℕ} → next < length text → SourceFails text next periods′ weights′ periods″ weights″
-      → LinesFail text at periods weights periods″ weights″
-  listing-fails h f =
-      record {
-        none = g .refutes (no-line h (f .none));
-        entries = g .entries;
-        next = next;
-        small = g .small;
-        stand = g .stand;
-        ends = f .none;
-        storesPeriods = f .keptPeriods ∙ g .storesPeriods;
-        storesWeights = f .keptWeights ∙ g .storesWeights;
-      }
+  pub listing-fails : next < length text → NoLine text next srcWord 2 → NoLines text at
+  listing-fails h n = g .refutes (no-line h n)

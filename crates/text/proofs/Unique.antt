@@ -7,20 +7,24 @@ use mathlib.Core.Bool.{true, false}
 use mathlib.Core.List.{List, [], _∷_}
 use mathlib.Core.Option.{Option, some, none}
 use lib.ListN.{length, getD, take}
-use lib.Seq.{take-at}
+use Rattle.rooms.specs.Lists.{padded}
+use Rattle.rooms.proofs.Lists.{padded-front}
+use Rattle.words.specs.Line.{line}
+use Rattle.words.proofs.Lines.{line-split}
 use Rattle.scope.specs.declared.Run.{Run}
+use Rattle.scope.specs.Run.{ceiling}
 use Rattle.scope.specs.Refusal.{Complaint, Tests, _when_, _andThen_, ofSource, nothing, orElse, placed, complaint, number, windowTests, lineTests, runTests, periodTests, weightTests}
-use Rattle.scope.specs.Reply.{refused, answered, reply, stored}
+use Rattle.scope.specs.Reply.{Said, refused, answered, reply, stored}
 use Rattle.scope.proofs.Judged.{Passes, grant-reply, grant-stored}
 use Rattle.sources.specs.Entry.{Entry, entryTests, listTests}
 use Rattle.sources.specs.Lists.{periodsOf, weightsOf}
 use Rattle.sources.proofs.Entries.{entry, entries-of, periods-length, weights-length}
-use Rattle.text.specs.Form.{line, runWord, srcWord, runNumbers, srcNumbers, srcLines, textOf, Content, Spells}
-use Rattle.text.specs.Promise.{Reads, textTests, replyTo, handed, padded, saysText, TextPromise, sourcesOf}
+use Rattle.text.specs.Form.{runWord, srcWord, runNumbers, srcNumbers, srcLines, textOf, Content, Spells}
+use Rattle.text.specs.Promise.{Reads, textTests, replyTo, handed, saysText, TextPromise, sourcesOf}
 use Rattle.text.specs.declared.Answer.{Answer}
 use Rattle.text.specs.declared.Answer.the-variants.{Read, Refused}
 use Rattle.text.specs.declared.Input.{Input}
-use Rattle.text.proofs.Lines.{line-split}
+use Rattle.text.proofs.Says.{reads-exists}
 
 -- ---- the rendering is injective
 
@@ -74,6 +78,23 @@ text-unique text i j p q =
     let weights : i .weights ≡ j .weights = p .weights ∙ rw e (sym (q .weights)) in
     λ k. record { answer = answers k; count = counts k; periods = periods k; weights = weights k }
 
+-- ---- some reply fits: every text says something, or it has not the form
+
+abbrev answer : Said Run → Answer
+answer (answered run) = Read run
+answer (refused n) = Refused n
+
+says-answer : (s : Said Run) → saysText (answer s) ≡ s
+says-answer (answered run) = refl
+says-answer (refused n) = refl
+
+pub text-exists : (text : List ℕ) → (input : Input) × TextPromise text input
+text-exists text =
+    let (o, r) = reads-exists text in (
+      record { answer = answer (replyTo o); count = length (handed o); periods = padded 64 (periodsOf (handed o)); weights = padded 64 (weightsOf (handed o)) },
+      record { content = o; reads = r; says = says-answer (replyTo o); counts = refl; periods = refl; weights = refl },
+    )
+
 -- ---- 11 exactly when the text has not the form
 
 -- the complaint, if there is one, has another number than n
@@ -114,7 +135,7 @@ tests-apart content =
     let many : _≡_ {A = ℕ} 12 11 → ⊥ = λ e. omega arith in
     search (window, lines, interval, many, list 1 (content .entries)) depth 12
   where
-    list : (k : ℕ) (entries : List Entry) → Apart 11 (listTests 255 k entries)
+    list : (k : ℕ) (entries : List Entry) → Apart 11 (listTests ceiling k entries)
     list k [] = tt
     list k (e ∷ entries) =
         let period : _≡_ {A = ℕ} 4 11 → ⊥ = λ z. omega arith in
@@ -139,13 +160,12 @@ refused-form text input p = (λ e. go (p .content) (p .reads) (sym (ap saysText 
 -- ---- accepted with a run and sources exactly if the text is their rendering and they pass the tests
 
 pub sources-handed : (text : List ℕ) (input : Input) (p : TextPromise text input) → sourcesOf input ≡ handed (p .content)
-unfolding padded
 sources-handed text input p =
     let es = handed (p .content) in
     let front : take (input .count) (input .periods) ≡ periodsOf es =
-    ap (take (input .count)) (p .periods) ∙ take-at (periodsOf es) _ (input .count) (periods-length es ∙ sym (p .counts)) in
+    ap (take (input .count)) (p .periods) ∙ padded-front 64 (input .count) (periodsOf es) (periods-length es ∙ sym (p .counts)) in
     let beside : take (input .count) (input .weights) ≡ weightsOf es =
-    ap (take (input .count)) (p .weights) ∙ take-at (weightsOf es) _ (input .count) (weights-length es ∙ sym (p .counts)) in
+    ap (take (input .count)) (p .weights) ∙ padded-front 64 (input .count) (weightsOf es) (weights-length es ∙ sym (p .counts)) in
     rw (front, beside) (entries-of es)
 
 pub accepted : (text : List ℕ) (input : Input) → TextPromise text input → (d : Content)

@@ -1,25 +1,14 @@
 -- Document 01, "The list program": the text that it reads. A text is a list of bytes.
-use Prim.Native.Nat.{ℕ, _≤_, _<_, _^_}
+use Prim.Native.Nat.{ℕ, _≤_}
 use mathlib.Core.Path.{_≡_}
 use mathlib.Core.List.{List, [], _∷_, _++_}
 use lib.ListN.{length}
-use Rattle.decimal.specs.Digits.{digits}
+use Rattle.rooms.specs.Lists.{UpTo}
+use Rattle.decimal.specs.Digits.{largest}
+use Rattle.words.specs.Line.{line}
 use Rattle.scope.specs.declared.Run.{Run}
 use Rattle.sources.specs.Entry.{Entry}
-
--- "Single spaces, decimal numbers .., a newline after each line": what follows the word that a line begins with.
-unfoldable pub fields : List ℕ → List ℕ
-fields [] = 10 ∷ []
-fields (n ∷ numbers) = 32 ∷ digits n ++ fields numbers
-
--- A line: a word and its numbers.
-unfoldable pub line : List ℕ → List ℕ → List ℕ
-line word numbers = word ++ fields numbers
-
--- "decimal numbers up to 4,294,967,295".
-abbrev pub Small : List ℕ → Type 0
-Small [] = Unit {0}
-Small (n ∷ numbers) = (n < 2 ^ 32) × Small numbers
+use Rattle.sources.specs.Lists.{periodsOf, weightsOf}
 
 -- The word `run`.
 abbrev pub runWord : List ℕ
@@ -42,11 +31,6 @@ unfoldable pub srcLines : List Entry → List ℕ
 srcLines [] = []
 srcLines (entry ∷ entries) = line srcWord (srcNumbers entry) ++ srcLines entries
 
--- The numbers of all these lines are small.
-abbrev pub AllSmall : List Entry → Type 0
-AllSmall [] = Unit {0}
-AllSmall (entry ∷ entries) = Small (srcNumbers entry) × AllSmall entries
-
 -- What a text says: a run and sources with their weights.
 pub record Content : Type 0 where
   pub run : Run
@@ -59,7 +43,9 @@ textOf content = line runWord (runNumbers (content .run)) ++ srcLines (content .
 -- The text has 01's form, and spells out this run and these sources.
 pub record Spells (text : List ℕ) (content : Content) : Type 0 where
   pub spelled : text ≡ textOf content
-  pub runSmall : Small (runNumbers (content .run))
-  pub allSmall : AllSmall (content .entries)
+  -- "decimal numbers up to 4,294,967,295"
+  pub runSmall : UpTo largest (runNumbers (content .run))
+  pub periodsSmall : UpTo largest (periodsOf (content .entries))
+  pub weightsSmall : UpTo largest (weightsOf (content .entries))
   -- "at most 4,096 bytes"
   pub short : length text ≤ 4096

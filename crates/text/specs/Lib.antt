@@ -1,3 +1,4 @@
 pub mod Form
 pub mod Promise
 pub mod Inner
+pub mod Table

@@ -1,12 +1,13 @@
 -- The promise of reading a text: what it replies and stores, by what the text says. No way of reading is named.
-use Prim.Native.Nat.{ℕ, _-_}
+use Prim.Native.Nat.{ℕ}
 use mathlib.Core.Path.{_≡_}
-use mathlib.Core.List.{List, [], _++_}
+use mathlib.Core.List.{List, []}
 use mathlib.Core.Option.{Option, some, none}
 use lib.Dec.{ltb}
-use lib.ListN.{length, take, replicate}
+use lib.ListN.{length, take}
+use Rattle.rooms.specs.Lists.{zeros, padded}
 use Rattle.scope.specs.declared.Run.{Run}
-use Rattle.scope.specs.Run.{cellsOf}
+use Rattle.scope.specs.Run.{ceiling, cellsOf}
 use Rattle.scope.specs.Refusal.{Tests, _when_, _andThen_, TooMany, Text, complaint, number, runTests}
 use Rattle.scope.specs.Reply.{Said, refused, answered, reply, stored}
 use Rattle.sources.specs.Entry.{Entry, entriesOf, listTests}
@@ -27,7 +28,7 @@ textTests content =
     runTests (content .run) andThen
     TooMany when ltb 64 (length (content .entries)) andThen
     TooMany when ltb 65536 (cellsOf (content .run)) andThen
-    listTests 255 1 (content .entries)
+    listTests ceiling 1 (content .entries)
 
 -- What the reply is to be. "Anything else in the text is refused 11."
 abbrev pub replyTo : Option Content → Said Run
@@ -38,10 +39,6 @@ replyTo (some content) = reply (complaint (textTests content)) (content .run)
 abbrev pub handed : Option Content → List Entry
 handed none = []
 handed (some content) = stored (complaint (textTests content)) [] (content .entries)
-
--- A list of 64 numbers that begins with these, the rest being 0.
-unfoldable pub padded : List ℕ → List ℕ
-padded numbers = numbers ++ replicate (64 - length numbers) 0
 
 -- 01's number and values for each case of the answer.
 abbrev pub saysText : Answer → Said Run
@@ -54,8 +51,8 @@ pub record TextPromise (text : List ℕ) (input : Input) : Type 0 where
   pub reads : Reads text content
   pub says : saysText (input .answer) ≡ replyTo content
   pub counts : input .count ≡ length (handed content)
-  pub periods : input .periods ≡ padded (periodsOf (handed content))
-  pub weights : input .weights ≡ padded (weightsOf (handed content))
+  pub periods : input .periods ≡ padded 64 (periodsOf (handed content))
+  pub weights : input .weights ≡ padded 64 (weightsOf (handed content))
 
 -- "`src period weight` lines, none or more": the sources that a reply hands out, as many as it counts.
 abbrev pub sourcesOf : Input → List Entry
@@ -63,4 +60,4 @@ sourcesOf input = entriesOf (take (input .count) (input .periods)) (take (input 
 
 -- A refusal's number with no source.
 abbrev pub refusal : ℕ → Input
-refusal n = record { answer = Refused n; count = 0; periods = replicate 64 0; weights = replicate 64 0 }
+refusal n = record { answer = Refused n; count = 0; periods = zeros 64; weights = zeros 64 }

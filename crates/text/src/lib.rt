@@ -1,15 +1,15 @@
 // The text that the list program reads: a run and its sources, or the refusal.
 // Every function is proved. `read_text` is the one public operation here, and it asks nothing of its caller.
-use decimal::Number;
 use scope::Run;
 use scope::Verdict;
+use words::Found;
 ghost use mathlib.Core.Path.{_≡_};
 ghost use lib.Dec.{ltb};
-ghost use lib.ListN.{length, set};
+ghost use lib.ListN.{length};
 ghost use Rattle.scope.specs.Refusal.{_when_, TooMany, complaint};
 ghost use Rattle.scope.specs.InnerVerdict.{verdict};
 ghost use Rattle.text.specs.Promise.{refusal, TextPromise};
-ghost use Rattle.text.specs.Inner.{WordAt, FieldAt, LineAt, SourceAt, SourcesAt, LinesAt, runOf};
+ghost use Rattle.text.specs.Inner.{SourceAt, SourcesAt, LinesAt, runOf};
 
 // A text has at most so many bytes,
 const LONGEST: usize = 4096;
@@ -37,93 +37,22 @@ pub struct Input {
     pub weights: [u32; SOURCES],
 }
 
-// What a step of reading answers, at a place of a text.
-pub enum Found {
-    // What it looks for stands there, and this is the place after it.
-    Next(usize),
-    // It does not: the refusal's number.
-    Refused(u8),
-}
-
-// The place after a word, where the text has it at `at`.
-fn read_word(text: &[u8], at: usize, word: &[u8]) -> Found
-    ensures { λ r. ⌜ WordAt (now (text .entry)) at (now (word .entry)) r ⌝ }
-{
-    let mut next = at;
-    let mut k = 0;
-    while k < word.len() {
-        if text.len() <= next {
-            return Found::Refused(FORM);
-        }
-        if text[next] != word[k] {
-            return Found::Refused(FORM);
-        }
-        next += 1;
-        k += 1;
-    }
-    Found::Next(next)
-}
-
-// Stores a number at a place of a room that has the place, and nothing elsewhere.
-fn put(room: &mut [u32], k: usize, number: u32)
-    ensures { λ _. ⌜ now (room .exit) ≡ set (now (room .entry)) k number ⌝ }
-{
-    if k < room.len() {
-        room[k] = number;
-    }
-}
-
-// The place after a space and a number, which goes into the room at k.
-fn read_field(text: &[u8], at: usize, room: &mut [u32], k: usize) -> Found
-    ensures { λ r. ⌜ FieldAt (now (text .entry)) at (now (room .entry)) k (now (room .exit)) r ⌝ }
-{
-    let space = read_word(text, at, b" ");
-    let Found::Next(start) = space else {
-        return space;
-    };
-    let Number::Value(number, next) = decimal::read_number(text, start) else {
-        return Found::Refused(FORM);
-    };
-    put(room, k, number);
-    Found::Next(next)
-}
-
-// The place after a line that has the word and as many numbers as there is room for; the numbers go into the room.
-fn read_line(text: &[u8], at: usize, word: &[u8], room: &mut [u32]) -> Found
-    ensures { λ r. ⌜ LineAt (now (text .entry)) at (now (word .entry)) (now (room .entry)) (now (room .exit)) r ⌝ }
-{
-    let named = read_word(text, at, word);
-    let Found::Next(start) = named else {
-        return named;
-    };
-    let mut next = start;
-    let mut k = 0;
-    while k < room.len() {
-        let field = read_field(text, next, room, k);
-        let Found::Next(end) = field else {
-            return field;
-        };
-        next = end;
-        k += 1;
-    }
-    read_word(text, next, b"\n")
-}
-
-// The place after a `src` line; its period and its weight go into the two lists at k, where there is room.
+// Where a `src` line ends; its period and its weight go into the two lists at k, where there is room.
 fn read_source(text: &[u8], at: usize, periods: &mut [u32], weights: &mut [u32], k: usize) -> Found
     ensures { λ r. ⌜ SourceAt (now (text .entry)) at (now (periods .entry)) (now (weights .entry)) k (now (periods .exit)) (now (weights .exit)) r ⌝ }
 {
     let mut numbers = [0u32; 2];
-    let line = read_line(text, at, b"src", &mut numbers);
+    let line = words::read_line(text, at, b"src", &mut numbers, FORM);
     let Found::Next(next) = line else {
         return line;
     };
-    put(periods, k, numbers[0]);
-    put(weights, k, numbers[1]);
+    rooms::put(periods, k, numbers[0]);
+    rooms::put(weights, k, numbers[1]);
     Found::Next(next)
 }
 
-// The place after the `src` lines from `at` on, where the text ends with them: all are read and counted, and as many are stored as there is room for.
+// Where the `src` lines from `at` on end, if the text ends with them: all are read and counted, and as many are stored as there is room for.
+// No `run` line need stand before them.
 fn read_sources(
     text: &[u8],
     at: usize,
@@ -161,7 +90,7 @@ fn read_lines(
     if LONGEST < text.len() {
         return Found::Refused(FORM);
     }
-    let run = read_line(text, 0, b"run", numbers);
+    let run = words::read_line(text, 0, b"run", numbers, FORM);
     let Found::Next(at) = run else {
         return run;
     };

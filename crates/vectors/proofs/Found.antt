@@ -11,7 +11,7 @@ use Rattle.lattice.proofs.Pair.{Paired, paired}
 use Rattle.lattice.proofs.Stage.{Side, left, right, other, ended, start}
 use Rattle.vectors.specs.declared.Vector.{Vector}
 use Rattle.vectors.specs.declared.Turn.{Turn}
-use Rattle.vectors.specs.Promise.{Askable}
+use Rattle.vectors.specs.InnerBasis.{Askable}
 use Rattle.vectors.specs.InnerSequence.{partnerOf, Moves, Successive, Ready, Stopped, Open}
 use Rattle.vectors.specs.Vectors.{IsPair, IsSingle}
 use Rattle.vectors.proofs.Bridge.{leftward, rightward, from-magnitudes}

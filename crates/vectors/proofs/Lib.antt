@@ -3,3 +3,4 @@ pub mod Sequence
 pub mod Found
 pub mod Proposition
 pub mod Unique
+pub mod Table

@@ -6,10 +6,7 @@ use lib.IntN.{ℤ, pos, negsuc, negℤ, natAbs, _+ℤ_, _*ℤ_}
 use Rattle.lattice.proofs.Stage.{Side, left, right, other, Stage}
 use Rattle.vectors.specs.declared.Vector.{Vector}
 use Rattle.vectors.specs.declared.Turn.{Turn}
-
--- The vector of two numbers.
-abbrev pub vector : ℤ → ℕ → Vector
-vector offset line = record { offset = offset; line = line }
+use Rattle.vectors.specs.Vectors.{vector}
 
 -- Two successive vectors.
 abbrev pub turn : Vector → Vector → Turn

@@ -1,16 +1,13 @@
 -- Document 01: what the vectors call replies, for every period, remainder and window.
-use Prim.Native.Nat.{ℕ, _≤_, _<_}
+use Prim.Native.Nat.{ℕ}
 use mathlib.Core.Path.{_≡_}
 use mathlib.Core.Option.{Option, some, none}
 use lib.Dec.{ltb, leb}
 use Rattle.scope.specs.Refusal.{Complaint, Tests, _when_, _andThen_, Remainder, WiderThanPeriod, complaint, number, windowTests, periodTests}
 use Rattle.scope.specs.Reply.{Said, refused, answered}
-use Rattle.vectors.specs.declared.Basis.{Basis}
-use Rattle.vectors.specs.declared.Basis.the-variants.{Two, One}
 use Rattle.vectors.specs.declared.Steps.{Steps}
 use Rattle.vectors.specs.declared.Steps.the-variants.{Pair, Single, Refused}
-use Rattle.vectors.specs.Vectors.{IsPair, IsSingle, Values, pair, single}
-use Rattle.vectors.specs.InnerSequence.{vector}
+use Rattle.vectors.specs.Vectors.{vector, IsPair, IsSingle, Values, pair, single}
 
 -- "Order. Vectors: 1, 4, 5, 6." "5: r ≥ p", "6: I > p".
 unfoldable pub vectorsTests : ℕ → ℕ → ℕ → Tests
@@ -19,18 +16,6 @@ vectorsTests p r I =
     periodTests p andThen
     Remainder when leb p r andThen
     WiderThanPeriod when ltb p I
-
--- What `find_basis` is asked with: a remainder below the period and a window no wider than it.
-pub record Askable (p r I : ℕ) : Type 0 where
-  pub remainder : r < p
-  pub some : 1 ≤ I
-  pub window : I ≤ p
-  pub small : p ≤ 2147483647
-
--- What the basis that `find_basis` gives has to be: the pair, or the single vector where there is no pair.
-abbrev pub Spans : ℕ → ℕ → ℕ → Basis → Type 0
-Spans p r I (Two left right) = IsPair p r I left right
-Spans p r I (One v) = IsSingle p r I v
 
 -- 01's number and values for each case of the reply.
 abbrev pub saysVectors : Steps → Said Values

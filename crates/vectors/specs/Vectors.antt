@@ -6,6 +6,10 @@ use lib.Signed.{_≤ℤ_, _<ℤ_}
 use Rattle.lattice.specs.Gcd.{IsGcd}
 use Rattle.vectors.specs.declared.Vector.{Vector}
 
+-- "(α, β)": the vector of two numbers.
+abbrev pub vector : ℤ → ℕ → Vector
+vector offset line = record { offset = offset; line = line }
+
 -- "i ≡ r·j (mod p), the lattice of source document 002": p divides r·j - i.
 unfoldable pub InLattice : ℕ → ℕ → Vector → Type 0
 InLattice p r v = p ∣ natAbs (pos (r * v .line) -ℤ v .offset)

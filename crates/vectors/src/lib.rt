@@ -6,8 +6,10 @@ use scope::judge_window;
 use signed::size;
 ghost use mathlib.Core.Path.{_≡_};
 ghost use Prim.Native.Nat.{_<_, _^_};
-ghost use Rattle.vectors.specs.Promise.{VectorsPromise, Spans, Askable};
-ghost use Rattle.vectors.specs.InnerSequence.{vector, turn, firstTwo, alongside, Reaches, plusTimes, nextOf, partnerOf, Ready, Divided, Open};
+ghost use Rattle.vectors.specs.Vectors.{vector};
+ghost use Rattle.vectors.specs.Promise.{VectorsPromise};
+ghost use Rattle.vectors.specs.InnerBasis.{Askable, Spans};
+ghost use Rattle.vectors.specs.InnerSequence.{turn, firstTwo, alongside, Reaches, plusTimes, nextOf, partnerOf, Ready, Divided, Open};
 
 // A vector of the lattice: so many ticks of offset, to the right or (below 0) to the left, and so many lines on.
 pub struct Vector {

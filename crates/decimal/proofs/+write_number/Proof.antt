@@ -6,7 +6,7 @@ use native.Mathlib.Omega.{arith}
 use borrow.Fn.Kinds.{In}
 use borrow.Fn.PlainCycle.{Measures, is, falls, and}
 use Rattle.decimal.proofs.Laws.{digits-one, digits-more, length-one, length-more}
-use Rattle.decimal.proofs.Rooms.{written-append}
+use Rattle.rooms.proofs.Written.{written-append}
 use Rattle.decimal.proofs.write_number.Reads as own
 use Rattle.decimal.proofs.write_number.Kinds as kinds
 use Rattle.decimal.proofs.+write_number.Lts-write_number as lts

@@ -1,4 +1,4 @@
--- `decimal::read_number` meets its contract. The loop's invariant: the digits passed are those of `value`, which is below 2 ^ 32.
+-- `decimal::read_number` meets its contract. The loop's invariant: the digits passed are those of `value`, which is not above the largest.
 -- The measure is what is left of the text. Assumes nothing.
 use Prim.Native.Nat.{ℕ, _-_}
 use mathlib.Core.Path.{_≡_, refl, sym, _∙_}

@@ -1,7 +1,7 @@
 -- `decimal::write_digit` meets its contract: it stores one byte.
 -- Assumes nothing.
 use borrow.Author.Needs.{needs}
-use Rattle.decimal.proofs.Rooms.{written-one}
+use Rattle.rooms.proofs.Written.{written-one}
 use Rattle.decimal.proofs.write_digit.Statement.{statement}
 use Rattle.decimal.proofs.write_digit.Tie as tie
 

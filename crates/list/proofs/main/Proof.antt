@@ -9,8 +9,8 @@ use lib.Seq.{length-take-le}
 use lib.IntN.{ℤ, pos, negsuc}
 use borrow.Author.Needs.{needs}
 use Rattle.io.specs.Counts.{clamped}
-use Rattle.report.specs.Report.{zeros}
-use Rattle.report.proofs.Mapped.{zeros-long}
+use Rattle.rooms.specs.Lists.{zeros}
+use Rattle.rooms.proofs.Lists.{length-zeros}
 use Rattle.report.proofs.Unique.{output-within, output-prints}
 use Rattle.list.specs.declared.Reading.{Reading}
 use Rattle.list.specs.declared.Input.the-variants.{Text}
@@ -42,7 +42,7 @@ within : (c : tie.After-known-told) → c .before .count .given .0 .0 ≤ length
 within c = let t = read-as c in let s = c .before .before .before .before .before .read-input .ensures in omega arith
 
 zeros-length : {n : ℕ} {room : List ℕ} → room ≡ zeros n → length room ≡ n
-zeros-length {n} e = ap length e ∙ zeros-long n
+zeros-length {n} e = ap length e ∙ length-zeros n
 
 -- the room stays as long as it was, which is longer than a text may be
 room-longer : (c : tie.After-known-told) → 4096 < length (c .before .before .before .before .before .read-input .last .0)

@@ -1,6 +1,6 @@
 -- `list::text_room` meets its contract. Assumes nothing.
 use mathlib.Core.Path.{refl}
-use Rattle.report.specs.Report.{zeros}
+use Rattle.rooms.specs.Lists.{zeros}
 use Rattle.list.proofs.text_room.Statement.{statement}
 use Rattle.list.proofs.text_room.Tie as tie
 

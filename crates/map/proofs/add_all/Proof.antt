@@ -7,6 +7,7 @@ use mathlib.Core.List.{List}
 use mathlib.Core.Option.{none}
 use Prim.Native.Nat.{ℕ, _/_, _≤_}
 use Rattle.scope.specs.declared.Run.{Run}
+use Rattle.scope.specs.Run.{ceiling}
 use Rattle.scope.specs.Refusal.{complaint}
 use Rattle.sources.specs.Entry.{Entry, listTests}
 use Rattle.map.specs.Promise.{added}
@@ -15,15 +16,15 @@ use Rattle.map.proofs.Entries.{AllBelow, valid-entries, valid-below, ch
 use Rattle.map.proofs.add_all.Statement.{statement}
 use Rattle.map.proofs.add_all.Tie as tie
 
-module _ (run : Run) (cells : List ℕ) (entries : List Entry) (sound : complaint (listTests 255 1 entries) ≡ none) where
+module _ (run : Run) (cells : List ℕ) (entries : List Entry) (sound : complaint (listTests ceiling 1 entries) ≡ none) where
   below : AllBelow 2147483648 entries
-  below = valid-below 255 entries (valid-entries 255 1 entries (record { is = sound }))
+  below = valid-below ceiling entries (valid-entries ceiling 1 entries (record { is = sound }))
 
-  at-once : {after : List ℕ} → after ≡ added 255 run (chosen 0 2147483648 entries) cells → after ≡ added 255 run entries cells
-  at-once e = e ∙ ap (λ l. added 255 run l cells) (chosen-all 2147483648 entries below)
+  at-once : {after : List ℕ} → after ≡ added ceiling run (chosen 0 2147483648 entries) cells → after ≡ added ceiling run entries cells
+  at-once e = e ∙ ap (λ l. added ceiling run l cells) (chosen-all 2147483648 entries below)
 
-  in-two : {between after : List ℕ} → between ≡ added 255 run (chosen 0 2048 entries) cells → after ≡ added 255 run (chosen 2048 2147483648 entries) between → after ≡ added 255 run entries cells
-  in-two e f = f ∙ ap (added 255 run (chosen 2048 2147483648 entries)) e ∙ added-chosen 255 run 2048 2147483648 entries cells below
+  in-two : {between after : List ℕ} → between ≡ added ceiling run (chosen 0 2048 entries) cells → after ≡ added ceiling run (chosen 2048 2147483648 entries) between → after ≡ added ceiling run entries cells
+  in-two e f = f ∙ ap (added ceiling run (chosen 2048 2147483648 entries)) e ∙ added-chosen ceiling run 2048 2147483648 entries cells below
 
 -- a block has a line
 some-lines : {w : ℕ} → 2 ≤ w → w ≤ 4096 → 1 ≤ 65536 / w

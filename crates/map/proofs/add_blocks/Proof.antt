@@ -10,7 +10,7 @@ use Prim.Native.Nat.{ℕ, suc, _+_, _-_, _*_, _≤_, _<_}
 use lib.ListN.{length, take, drop}
 use Rattle.scope.specs.declared.Run.{Run}
 use Rattle.scope.specs.declared.RunCell.{RunCell}
-use Rattle.scope.specs.Run.{ValidRun, UpTo, linesOf, cellsOf, shiftOf}
+use Rattle.scope.specs.Run.{ValidRun, ceiling, UpTo, linesOf, cellsOf, shiftOf}
 use Rattle.scope.proofs.Numbering.{IsBlock, valid-block, shift-next}
 use Rattle.sources.specs.Entry.{Entry, entriesOf}
 use Rattle.map.specs.Promise.{weightAt, added}
@@ -23,15 +23,15 @@ use Rattle.map.proofs.add_blocks.Tie as tie
 record Blocks (run : Run) (entries : List Entry) (old map : List ℕ) (first : ℕ) : Type 0 where
   from : run .first ≤ first
   to : first ≤ suc (run .last)
-  small : UpTo 255 old
+  small : UpTo ceiling old
   cells : ℕ
   cells-are : cells ≡ (first - run .first) * run .window
-  done : RaisedBelow 255 (weightAt run entries) old cells map
+  done : RaisedBelow ceiling (weightAt run entries) old cells map
 
-begins : (run : Run) (entries : List Entry) (old : List ℕ) → ValidRun run → UpTo 255 old → Blocks run entries old old (run .first)
+begins : (run : Run) (entries : List Entry) (old : List ℕ) → ValidRun run → UpTo ceiling old → Blocks run entries old old (run .first)
 begins run entries old v small =
     let none : run .first - run .first ≡ 0 = omega arith in
-    record { from = omega arith; to = omega arith; small = small; cells = 0; cells-are = rw none (omega arith); done = starts 255 _ old }
+    record { from = omega arith; to = omega arith; small = small; cells = 0; cells-are = rw none (omega arith); done = starts ceiling _ old }
 
 -- a block's cells end within the run
 block-room : {run block : Run} → IsBlock run block → block .first ≤ block .last → cellsOf block + shiftOf run block ≤ cellsOf run
@@ -57,14 +57,14 @@ module _ {run : Run} {entries : List Entry} {old map : List ℕ} {first : ℕ} (
   part-cells {block} {cells} {start} {end} p = mid-len start end map (part-ends p) ∙ omega arith
 
   -- the block at `first` is added to its part of the map
-  next : {block : Run} {cells start end : ℕ} {part : List ℕ} → Part run block first cells start end → part ≡ added 255 block entries (take (end - start) (drop start map)) → Blocks run entries old (putMid start (end - start) map part) (block .last + 1)
+  next : {block : Run} {cells start end : ℕ} {part : List ℕ} → Part run block first cells start end → part ≡ added ceiling block entries (take (end - start) (drop start map)) → Blocks run entries old (putMid start (end - start) map part) (block .last + 1)
   unfolding shiftOf added
   next {block} {cells} {start} {end} {part} p put =
       let b = p .is in
       let on : Run = record { window = run .window; interval = run .interval; first = block .last + 1; last = run .last } in
       let here : so-far .cells ≡ start = so-far .cells-are ∙ ap (λ n. (n - run .first) * run .window) (sym (p .at)) ∙ omega arith in
       let there : (block .last + 1 - run .first) * run .window ≡ shiftOf run block + cellsOf block = shift-next b on (omega arith) (add-one (block .last)) in
-      let so : RaisedBelow 255 (weightAt run entries) old start map = rw here at (so-far .done) in
+      let so : RaisedBelow ceiling (weightAt run entries) old start map = rw here at (so-far .done) in
       let room = part-ends p in
       let l = so-far .done .as-long in
       let moved : start ≡ shiftOf run block = omega arith in
@@ -78,7 +78,7 @@ module _ {run : Run} {entries : List Entry} {old map : List ℕ} {first : ℕ} (
       }
 
   -- past the last line
-  all : run .last < first → map ≡ added 255 run entries old
+  all : run .last < first → map ≡ added ceiling run entries old
   unfolding added cellsOf linesOf
   all h =
       let lines : first ≡ suc (run .last) = omega arith in

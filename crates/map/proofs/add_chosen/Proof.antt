@@ -9,7 +9,7 @@ use mathlib.Core.List.{List, [], _∷_}
 use Prim.Native.Nat.{ℕ, suc, _≤_, _<_, _-_, _+_}
 use lib.ListN.{length, getD, drop, drop-of-length-le}
 use Rattle.scope.specs.declared.Run.{Run}
-use Rattle.scope.specs.Run.{UpTo}
+use Rattle.scope.specs.Run.{ceiling, UpTo}
 use Rattle.sources.specs.Entry.{entriesOf}
 use Rattle.map.specs.Promise.{added}
 use Rattle.map.specs.Inner.{chosen}
@@ -20,17 +20,17 @@ use Rattle.map.proofs.add_chosen.Tie as tie
 record Left (run : Run) (periods weights : List ℕ) (low high : ℕ) (map₀ map : List ℕ) (k : ℕ) : Type 0 where
   equal : length periods ≡ length weights
   within : k ≤ length periods
-  valid : ValidEntries 255 (entriesOf (drop k periods) (drop k weights))
+  valid : ValidEntries ceiling (entriesOf (drop k periods) (drop k weights))
   as-long : length map ≡ length map₀
-  small : UpTo 255 map
-  same : added 255 run (chosen low high (entriesOf (drop k periods) (drop k weights))) map ≡ added 255 run (chosen low high (entriesOf periods weights)) map₀
+  small : UpTo ceiling map
+  same : added ceiling run (chosen low high (entriesOf (drop k periods) (drop k weights))) map ≡ added ceiling run (chosen low high (entriesOf periods weights)) map₀
 
 module _ {run : Run} {periods weights : List ℕ} {low high : ℕ} {map₀ map : List ℕ} {k : ℕ} (left : Left run periods weights low high map₀ map k) where
   -- the entries left, by the one at place k
   these : k < length periods → entriesOf (drop k periods) (drop k weights) ≡ entry (getD periods k 0) (getD weights k 0) ∷ entriesOf (drop (suc k) periods) (drop (suc k) weights)
   these h = let l = left .equal in entries-from periods weights k h (omega arith)
 
-  valid-here : k < length periods → ValidEntry 255 (entry (getD periods k 0) (getD weights k 0))
+  valid-here : k < length periods → ValidEntry ceiling (entry (getD periods k 0) (getD weights k 0))
   valid-here h = (rw (these h) at (left .valid)) .0
 
   -- an entry is passed over
@@ -46,25 +46,25 @@ module _ {run : Run} {periods weights : List ℕ} {low high : ℕ} {map₀ map :
       }
 
   -- the entry is added
-  add : {map′ : List ℕ} → k < length periods → low ≤ getD periods k 0 → getD periods k 0 < high → map′ ≡ added 255 run (entry (getD periods k 0) (getD weights k 0) ∷ []) map → Left run periods weights low high map₀ map′ (k + 1)
+  add : {map′ : List ℕ} → k < length periods → low ≤ getD periods k 0 → getD periods k 0 < high → map′ ≡ added ceiling run (entry (getD periods k 0) (getD weights k 0) ∷ []) map → Left run periods weights low high map₀ map′ (k + 1)
   add {map′} h lower upper e =
       let one = entry (getD periods k 0) (getD weights k 0) in
       let rest = entriesOf (drop (suc k) periods) (drop (suc k) weights) in
-      let more : added 255 run (chosen low high rest) map′ ≡ added 255 run (chosen low high (entriesOf (drop k periods) (drop k weights))) map =
-      rw e (added-append 255 run (one ∷ []) (chosen low high rest) map ∙ ap (λ l. added 255 run l map) (sym (chosen-cons low high one rest lower upper) ∙ ap (chosen low high) (sym (these h)))) in
+      let more : added ceiling run (chosen low high rest) map′ ≡ added ceiling run (chosen low high (entriesOf (drop k periods) (drop k weights))) map =
+      rw e (added-append ceiling run (one ∷ []) (chosen low high rest) map ∙ ap (λ l. added ceiling run l map) (sym (chosen-cons low high one rest lower upper) ∙ ap (chosen low high) (sym (these h)))) in
       record {
         equal = left .equal;
         within = omega arith;
         valid = rw add-one ((rw (these h) at (left .valid)) .1);
-        as-long = rw e (added-length 255 run (one ∷ []) map) ∙ left .as-long;
-        small = rw e (added-within 255 run (one ∷ []) map);
+        as-long = rw e (added-length ceiling run (one ∷ []) map) ∙ left .as-long;
+        small = rw e (added-within ceiling run (one ∷ []) map);
         same = rw add-one (more ∙ left .same);
       }
 
   -- no entry is left
-  all : length periods ≤ k → map ≡ added 255 run (chosen low high (entriesOf periods weights)) map₀
+  all : length periods ≤ k → map ≡ added ceiling run (chosen low high (entriesOf periods weights)) map₀
   unfolding entriesOf chosen
-  all h = sym (added-none 255 run map (left .small)) ∙ rw (drop-of-length-le periods h) at (left .same)
+  all h = sym (added-none ceiling run map (left .small)) ∙ rw (drop-of-length-le periods h) at (left .same)
 
 abbrev Inv-loop : tie.InvT-loop
 Inv-loop run periods weights low high map₀ k₀ map k = Left run periods weights low high map₀ map k
@@ -78,7 +78,7 @@ loop-holds c =
     record {
       equal = p .equal;
       within = omega arith;
-      valid = valid-entries 255 1 _ (record { is = p .sound });
+      valid = valid-entries ceiling 1 _ (record { is = p .sound });
       as-long = refl;
       small = λ i. omega (arith, c .slice-known .given i);
       same = refl;

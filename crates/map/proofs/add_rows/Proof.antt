@@ -6,7 +6,7 @@ use native.Mathlib.Nat.{mod-lt, mod-eq-of-lt}
 use mathlib.Core.Path.{sym, _∙_}
 use Prim.Native.Nat.{_+_, _-_, _*_}
 use lib.ListN.{length}
-use Rattle.scope.specs.Run.{cellsOf, linesOf}
+use Rattle.scope.specs.Run.{ceiling, cellsOf, linesOf}
 use Rattle.scope.proofs.Hits.{origin}
 use Rattle.map.specs.Promise.{added}
 use Rattle.map.proofs.Raised.{ends, raised-move}
@@ -93,7 +93,7 @@ returns c =
     let rows = c .before .loop .inv in
     let begin = c .before .before .before .before .before .before .before .before .args in
     let l = rows .done .as-long in
-    ends (rows .done) (omega arith) ∙ raised-move 255 _ _ 0 0 _ (λ i h. row-gain (begin .run) (begin .source) (begin .weight) _ (0 + i) (c .before .before .distance .ensures))
+    ends (rows .done) (omega arith) ∙ raised-move ceiling _ _ 0 0 _ (λ i h. row-gain (begin .run) (begin .source) (begin .weight) _ (0 + i) (c .before .before .distance .ensures))
 
 pub add-rows-spec : {M : Type 1} → statement M
 add-rows-spec =

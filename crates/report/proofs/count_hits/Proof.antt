@@ -6,7 +6,7 @@ use native.Mathlib.Omega.{arith}
 use lib.ListN.{length}
 use Rattle.scope.specs.Hit.{hitsFrom}
 use Rattle.hits.specs.declared.Listing.the-variants.{Done}
-use Rattle.report.proofs.Mapped.{zeros-long}
+use Rattle.rooms.proofs.Lists.{length-zeros}
 use Rattle.report.proofs.Sources.{all-listed}
 use borrow.Author.Needs.{needs}
 use Rattle.report.proofs.count_hits.Statement.{statement}
@@ -18,7 +18,7 @@ done : (c : tie.After-list-hits)
     c .list-hits .result ≡ Done (length (hitsFrom (a .run) (a .source) 0))
 done c =
     let start = c .before .before .before in
-    let long = ap length (c .before .before .hit-room .ensures) ∙ zeros-long 65536 in
+    let long = ap length (c .before .before .hit-room .ensures) ∙ length-zeros 65536 in
     all-listed (start .pre .0) (start .pre .1) refl (omega (arith, start .pre)) (c .list-hits .ensures)
 
 hit-room-requires : tie.Need-hit-room-requires

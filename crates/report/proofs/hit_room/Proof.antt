@@ -1,6 +1,6 @@
 -- `report::hit_room` meets its contract. Assumes nothing.
 use mathlib.Core.Path.{refl}
-use Rattle.report.specs.Report.{zeros}
+use Rattle.rooms.specs.Lists.{zeros}
 use Rattle.report.proofs.hit_room.Statement.{statement}
 use Rattle.report.proofs.hit_room.Tie as tie
 

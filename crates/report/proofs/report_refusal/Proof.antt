@@ -3,11 +3,12 @@ use native.Mathlib.Omega.{arith}
 use mathlib.Core.Path.{ap}
 use mathlib.Core.List.{[], _∷_}
 use lib.ListN.{length}
-use Rattle.text.specs.Form.{line}
+use Rattle.words.specs.Line.{line}
 use Rattle.report.specs.Report.{refusedWord}
-use Rattle.report.proofs.Writing.{written-same}
-use Rattle.report.proofs.Longest.{line-long}
-use Rattle.report.proofs.Outputs.{blank-long, prints}
+use Rattle.rooms.proofs.Writing.{written-same}
+use Rattle.rooms.proofs.Lists.{length-zeros, up-to}
+use Rattle.words.proofs.Writing.{line-long}
+use Rattle.report.proofs.Outputs.{prints}
 use borrow.Author.Needs.{needs}
 use Rattle.report.proofs.report_refusal.Statement.{statement}
 use Rattle.report.proofs.report_refusal.Tie as tie
@@ -33,9 +34,9 @@ write-line-requires c κs =
     let small = told .before .before .fits in
     omega (
       arith,
-      line-long refusedWord (told .wide .result ∷ []) (omega (arith, told .wide .ensures), tt),
+      line-long refusedWord (told .wide .result ∷ []) (up-to (told .wide .result ∷ []) (omega (arith, told .wide .ensures), tt)),
       ap length (told .before .blank .ensures),
-      blank-long,
+      length-zeros 921600,
     )
 
 returns : tie.Need-returns

@@ -3,8 +3,9 @@ use native.Mathlib.Omega.{arith}
 use mathlib.Core.Path.{ap}
 use lib.ListN.{length}
 use Rattle.map.proofs.Entries.{entries-length}
+use Rattle.rooms.proofs.Lists.{length-zeros}
 use Rattle.report.proofs.Longest.{whole-long}
-use Rattle.report.proofs.Outputs.{blank-long, prints}
+use Rattle.report.proofs.Outputs.{prints}
 use borrow.Author.Needs.{needs}
 use Rattle.report.proofs.report_run.Statement.{statement}
 use Rattle.report.proofs.report_run.Tie as tie
@@ -20,7 +21,7 @@ write-report-requires c κs =
     let start = c .before .before .before .before in
     let a = start .pre .0 in
     let few = entries-length (start .args .periods .now) (start .args .weights .now) (a .equal) in
-    (a, omega (arith, whole-long a (omega (arith, start .pre .1)), ap length (c .before .blank .ensures), blank-long))
+    (a, omega (arith, whole-long a (omega (arith, start .pre .1)), ap length (c .before .blank .ensures), length-zeros 921600))
 
 returns : tie.Need-returns
 returns c = prints (c .before .before .before .blank .ensures) (c .before .write-report .ensures)

@@ -3,10 +3,10 @@ use mathlib.Core.Path.{_≡_, sym, ap, _∙_, subst}
 use Prim.Native.Nat.{_+_, _≤_}
 use lib.ListN.{length}
 use mathlib.Core.List.{[], _∷_}
-use Rattle.text.specs.Form.{line}
-use Rattle.decimal.proofs.Rooms.{written-none}
+use Rattle.words.specs.Line.{line}
+use Rattle.rooms.proofs.Written.{written-none}
 use Rattle.report.specs.Report.{mapWord, cellReport}
-use Rattle.report.proofs.Writing.{written-same}
+use Rattle.rooms.proofs.Writing.{written-same}
 use Rattle.report.proofs.Cells.{cell-none, cell-line}
 use borrow.Author.Needs.{needs}
 use Rattle.report.proofs.write_cell.Statement.{statement}

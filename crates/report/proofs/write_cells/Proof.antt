@@ -1,9 +1,9 @@
 -- `report::write_cells` meets its contract: the cells' lines and the line after them are the whole. Assumes nothing.
 use mathlib.Core.Path.{_≡_, refl, ap}
 use mathlib.Core.List.{[], _∷_, _++_}
-use Rattle.text.specs.Form.{line}
+use Rattle.words.specs.Line.{line}
 use Rattle.report.specs.Report.{endWord, mapReport, endReport}
-use Rattle.report.proofs.Writing.{Writing, writing-starts, writing-more, writing-last, piece-fits, last-fits, written-same}
+use Rattle.rooms.proofs.Writing.{Writing, writing-starts, writing-more, writing-last, piece-fits, last-fits, written-same}
 use borrow.Author.Needs.{needs}
 use Rattle.report.proofs.write_cells.Statement.{statement}
 use Rattle.report.proofs.write_cells.Tie as tie

@@ -3,7 +3,7 @@
 use Prim.Native.Nat.{_-_}
 use borrow.Author.Needs.{needs}
 use lib.ListN.{length}
-use Rattle.report.proofs.Writing.{writing-starts, writing-long}
+use Rattle.rooms.proofs.Writing.{writing-starts, writing-long}
 use Rattle.report.proofs.Cells.{MapLines, cell-fits, cell-written, map-written}
 use Rattle.report.proofs.write_map.Statement.{statement}
 use Rattle.report.proofs.write_map.Tie as tie

@@ -3,7 +3,7 @@ use mathlib.Core.Path.{_≡_, ap}
 use mathlib.Core.List.{_++_}
 use Rattle.sources.specs.Entry.{entriesOf}
 use Rattle.report.specs.Report.{mapReport, endReport, reportedMap, cellsReport}
-use Rattle.report.proofs.Writing.{written-same, fits-same}
+use Rattle.rooms.proofs.Writing.{written-same, fits-same}
 use Rattle.report.proofs.Mapped.{map-is}
 use borrow.Author.Needs.{needs}
 use Rattle.report.proofs.write_map_of.Statement.{statement}

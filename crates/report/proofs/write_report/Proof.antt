@@ -4,10 +4,11 @@ use mathlib.Core.Path.{refl, ap, _∙_}
 use mathlib.Core.List.{_++_}
 use native.Mathlib.Omega.{arith}
 use lib.ListN.{take}
+use Rattle.rooms.specs.Lists.{zeros}
 use Rattle.sources.specs.Entry.{entriesOf}
-use Rattle.report.specs.Report.{zeros, runReport, srcReport, cellsReport, wholeReport}
+use Rattle.report.specs.Report.{runReport, srcReport, cellsReport, wholeReport}
 use Rattle.report.proofs.Mapped.{cleared-part}
-use Rattle.report.proofs.Writing.{Writing, writing-starts, writing-more, writing-last, piece-fits, last-fits}
+use Rattle.rooms.proofs.Writing.{Writing, writing-starts, writing-more, writing-last, piece-fits, last-fits}
 use borrow.Author.Needs.{needs}
 use Rattle.report.proofs.write_report.Statement.{statement}
 use Rattle.report.proofs.write_report.Tie as tie

@@ -1,9 +1,10 @@
 -- `report::write_run` meets its contract: the number of cells makes the line the run's. Assumes nothing.
 use mathlib.Core.Path.{_≡_, ap}
 use mathlib.Core.List.{[], _∷_, _++_}
-use Rattle.text.specs.Form.{line, runWord, runNumbers}
+use Rattle.words.specs.Line.{line}
+use Rattle.text.specs.Form.{runWord, runNumbers}
 use Rattle.report.specs.Report.{runReport}
-use Rattle.report.proofs.Writing.{written-same, fits-same}
+use Rattle.rooms.proofs.Writing.{written-same, fits-same}
 use borrow.Author.Needs.{needs}
 use Rattle.report.proofs.write_run.Statement.{statement}
 use Rattle.report.proofs.write_run.Tie as tie

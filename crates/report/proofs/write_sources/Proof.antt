@@ -3,7 +3,7 @@
 use Prim.Native.Nat.{_-_}
 use borrow.Author.Needs.{needs}
 use lib.ListN.{length}
-use Rattle.report.proofs.Writing.{writing-long}
+use Rattle.rooms.proofs.Writing.{writing-long}
 use Rattle.report.proofs.Sources.{SrcLines, src-starts, src-valid, src-fits, src-written, src-ends}
 use Rattle.report.proofs.write_sources.Statement.{statement}
 use Rattle.report.proofs.write_sources.Tie as tie

@@ -5,8 +5,9 @@ use native.Mathlib.Omega.{arith}
 use borrow.Author.Needs.{needs}
 use lib.ListN.{length, length-take, length-drop}
 use Rattle.scope.proofs.Judged.{refuse-verdict, grant-verdict}
-use Rattle.saved.specs.File.{blocksFor, fileLength}
-use Rattle.saved.proofs.Cells.{more-blocks}
+use Rattle.fileblocks.specs.FileBlock.{fileBlockBytes, contentBytes}
+use Rattle.saved.specs.File.{fileBlocksFor, fileLength}
+use Rattle.saved.proofs.Cells.{more-file-blocks}
 use Rattle.saved.proofs.Judging.{CellsJudged, judged-none, judged-more, judged-fails, judged-all}
 use Rattle.saved.proofs.judge_cells.Statement.{statement}
 use Rattle.saved.proofs.judge_cells.Tie as tie
@@ -15,13 +16,13 @@ abbrev Inv-loop : tie.InvT-loop
 Inv-loop size file k₀ k = CellsJudged size file k
 
 abbrev μ-loop : tie.MeasureT-loop
-μ-loop size file k₀ k = size - 504 * k
+μ-loop size file k₀ k = size - contentBytes * k
 
 loop-holds : tie.Need-loop-holds Inv-loop μ-loop
 loop-holds c = judged-none
 
 mul-loop : tie.Need-mul-loop Inv-loop μ-loop
-unfolding blocksFor
+unfolding fileBlocksFor
 mul-loop c = omega arith
 
 add-at : tie.Need-add-at Inv-loop μ-loop
@@ -33,33 +34,33 @@ mul-at c = omega arith
 add-next : tie.Need-add-next Inv-loop μ-loop
 add-next c = omega arith
 
-add-judge-block : tie.Need-add-judge-block Inv-loop μ-loop
-add-judge-block c = omega arith
+add-judge-file-block : tie.Need-add-judge-file-block Inv-loop μ-loop
+add-judge-file-block c = omega arith
 
-cast-judge-block : tie.Need-cast-judge-block Inv-loop μ-loop
-cast-judge-block c = omega arith
+cast-judge-file-block : tie.Need-cast-judge-file-block Inv-loop μ-loop
+cast-judge-file-block c = omega arith
 
-mul-judge-block : tie.Need-mul-judge-block Inv-loop μ-loop
-mul-judge-block c = omega arith
+mul-judge-file-block : tie.Need-mul-judge-file-block Inv-loop μ-loop
+mul-judge-file-block c = omega arith
 
-sub-judge-block : tie.Need-sub-judge-block Inv-loop μ-loop
-sub-judge-block c = omega arith
+sub-judge-file-block : tie.Need-sub-judge-file-block Inv-loop μ-loop
+sub-judge-file-block c = omega arith
 
-sub-judge-block-2 : tie.Need-sub-judge-block-2 Inv-loop μ-loop
-sub-judge-block-2 c = omega arith
+sub-judge-file-block-2 : tie.Need-sub-judge-file-block-2 Inv-loop μ-loop
+sub-judge-file-block-2 c = omega arith
 
-part-judge-block-start : tie.Need-part-judge-block-start Inv-loop μ-loop
-part-judge-block-start c = omega arith
+part-judge-file-block-start : tie.Need-part-judge-file-block-start Inv-loop μ-loop
+part-judge-file-block-start c = omega arith
 
-part-judge-block-end : tie.Need-part-judge-block-end Inv-loop μ-loop
-unfolding blocksFor fileLength
-part-judge-block-end c = omega arith
+part-judge-file-block-end : tie.Need-part-judge-file-block-end Inv-loop μ-loop
+unfolding fileBlocksFor fileLength
+part-judge-file-block-end c = omega arith
 
-judge-block-requires : tie.Need-judge-block-requires Inv-loop μ-loop
+judge-file-block-requires : tie.Need-judge-file-block-requires Inv-loop μ-loop
 unfolding fileLength
-judge-block-requires c κs =
-    let b = more-blocks (c .before .loop-test .taken) in
-    let long : 512 * (c .before .before .loop .k + 1) + 512 ≤ length (c .before .before .before .before .args .file .now) = omega arith in
+judge-file-block-requires c κs =
+    let b = more-file-blocks (c .before .loop-test .taken) in
+    let long : fileBlockBytes * (c .before .before .loop .k + 1) + fileBlockBytes ≤ length (c .before .before .before .before .args .file .now) = omega arith in
     simp (length-take, length-drop) (omega arith)
 
 enum-known-number : tie.Need-enum-known-number Inv-loop μ-loop
@@ -68,7 +69,7 @@ enum-known-number c = search needs
 returns : tie.Need-returns Inv-loop μ-loop
 returns c =
     let turn = c .before .before .before .before .before in
-    refuse-verdict (judged-fails (turn .before .loop .inv) (turn .loop-test .taken) (record { is = c .before .before .before .judge-block .ensures }) (c .before .number .given .1))
+    refuse-verdict (judged-fails (turn .before .loop .inv) (turn .loop-test .taken) (record { is = c .before .before .before .judge-file-block .ensures }) (c .before .number .given .1))
 
 enum-told : tie.Need-enum-told Inv-loop μ-loop
 enum-told c = search needs
@@ -82,7 +83,7 @@ loop-less c = omega arith
 loop-again : tie.Need-loop-again Inv-loop μ-loop
 loop-again c =
     let turn = c .before .before .before .before in
-    judged-more (turn .before .loop .inv) (turn .loop-test .taken) (record { is = c .before .before .judge-block .ensures }) (c .enum-told .given .1)
+    judged-more (turn .before .loop .inv) (turn .loop-test .taken) (record { is = c .before .before .judge-file-block .ensures }) (c .enum-told .given .1)
 
 returns-2 : tie.Need-returns-2 Inv-loop μ-loop
 returns-2 c = grant-verdict (judged-all (c .before .loop .inv) (c .loop-test .left))
@@ -98,14 +99,14 @@ judge-cells-spec =
     add-at
     mul-at
     add-next
-    add-judge-block
-    cast-judge-block
-    mul-judge-block
-    sub-judge-block
-    sub-judge-block-2
-    part-judge-block-start
-    part-judge-block-end
-    judge-block-requires
+    add-judge-file-block
+    cast-judge-file-block
+    mul-judge-file-block
+    sub-judge-file-block
+    sub-judge-file-block-2
+    part-judge-file-block-start
+    part-judge-file-block-end
+    judge-file-block-requires
     enum-known-number
     returns
     enum-told

@@ -8,35 +8,37 @@ use mathlib.Core.Bool.{not}
 use mathlib.Core.List.{List}
 use lib.Dec.{eqb}
 use lib.ListN.{length}
-use Rattle.scope.specs.Run.{ValidRun, cellsOf}
-use Rattle.scope.specs.Refusal.{Tests, _when_, _andThen_, Blocks, number, complaint, runTests}
+use Rattle.scope.specs.Run.{ValidRun}
+use Rattle.scope.specs.Refusal.{Tests, _when_, _andThen_, FileBlocks, number, complaint, runTests}
 use Rattle.scope.specs.Reply.{answered}
 use Rattle.scope.specs.InnerVerdict.{verdict}
 use Rattle.scope.proofs.Judged.{Passes, broken, sound, first, then, both, fine, blamed, refuse-reply, grant-reply}
 use Rattle.scope.proofs.Limits.{valid-run, cells-few}
-use Rattle.saved.specs.File.{blocksFor, fileLength, blockAt, runOf, headingTests, cellBlocksTests, fileTests}
-use Rattle.blocks.proofs.Differs.{differs, agrees}
+use Rattle.fileblocks.specs.FileBlock.{fileBlockBytes}
+use Rattle.saved.specs.File.{fileBlocksFor, fileLength, bytesFor, fileBlockAt, runOf, headingTests, laterFileBlocksTests, fileTests}
+use Rattle.scope.proofs.Differs.{differs, agrees}
+use Rattle.saved.proofs.Cells.{cell-bytes}
 use Rattle.saved.proofs.judge_file.Statement.{statement}
 use Rattle.saved.proofs.judge_file.Tie as tie
 
 -- the tests up to those of block 0, of the run, of the count
 abbrev toHeading : List ℕ → Tests
-toHeading file = Blocks when not (eqb (length file % 512) 0) andThen Blocks when eqb (length file) 0 andThen headingTests (blockAt file 0)
+toHeading file = FileBlocks when not (eqb (length file % fileBlockBytes) 0) andThen FileBlocks when eqb (length file) 0 andThen headingTests (fileBlockAt file 0)
 
 abbrev toRun : List ℕ → Tests
 toRun file = toHeading file andThen runTests (runOf file)
 
 abbrev toCount : List ℕ → Tests
-toCount file = toRun file andThen Blocks when not (eqb (length file) (fileLength (cellsOf (runOf file))))
+toCount file = toRun file andThen FileBlocks when not (eqb (length file) (fileLength (bytesFor (runOf file))))
 
-whole : (c : tie.Else1) → Passes (Blocks when not (eqb (length (c .before .before .args .file .now) % 512) 0))
+whole : (c : tie.Else1) → Passes (FileBlocks when not (eqb (length (c .before .before .args .file .now) % fileBlockBytes) 0))
 whole c = sound (agrees refl refl (c .if1 .left))
 
-some : (c : tie.Else2) → Passes (Blocks when not (eqb (length (c .before .before .before .args .file .now) % 512) 0) andThen Blocks when eqb (length (c .before .before .before .args .file .now)) 0)
+some : (c : tie.Else2) → Passes (FileBlocks when not (eqb (length (c .before .before .before .args .file .now) % fileBlockBytes) 0) andThen FileBlocks when eqb (length (c .before .before .before .args .file .now)) 0)
 some c = both (whole (c .before)) (sound (ne-eqb _ _ (c .if2 .left)))
 
 headed : (c : tie.After-enum-told) → Passes (toHeading (c .before .before .before .before .before .before .before .args .file .now))
-unfolding blockAt
+unfolding fileBlockAt
 headed c = both (some (c .before .before .before .before)) (fine (c .before .before .judge-heading .ensures) (c .enum-told .given .1))
 
 -- what was found of the run
@@ -49,19 +51,19 @@ limited c = both (headed (c .before .before .before .before)) (fine (run-judged 
 valid : (c : tie.After-enum-told2) → ValidRun (c .before .before .before .run-of .result)
 valid c = valid-run (fine (c .before .before .judge-run .ensures) (c .enum-told2 .given .1)) (omega (arith, c .before .before .before .run-of .ok))
 
--- how long the file is to be, and how many cells it is to hold
-cells-told : (c : tie.After-cells) → c .cells .result ≡ cellsOf (runOf (c .before .before .before .before .before .before .before .before .before .before .before .before .args .file .now))
-cells-told c = c .cells .ensures ∙ ap cellsOf (c .before .before .before .before .run-of .ensures)
+-- how long the file is to be, and how many bytes of cells it is to hold
+size-told : (c : tie.After-bytes-for) → c .bytes-for .result ≡ bytesFor (runOf (c .before .before .before .before .before .before .before .before .before .before .before .before .args .file .now))
+size-told c = c .bytes-for .ensures ∙ ap bytesFor (c .before .before .before .before .run-of .ensures)
 
-length-told : (c : tie.After-file-length) → c .file-length .result ≡ fileLength (cellsOf (runOf (c .before .before .before .before .before .before .before .before .before .before .before .before .before .args .file .now)))
-length-told c = c .file-length .ensures ∙ ap fileLength (cells-told (c .before))
+length-told : (c : tie.After-file-length) → c .file-length .result ≡ fileLength (bytesFor (runOf (c .before .before .before .before .before .before .before .before .before .before .before .before .before .args .file .now)))
+length-told c = c .file-length .ensures ∙ ap fileLength (size-told (c .before))
 
 counted : (c : tie.Else3) → Passes (toCount (c .before .before .before .before .before .before .before .before .before .before .before .before .before .before .args .file .now))
 counted c = both (limited (c .before .before .before)) (sound (agrees refl (length-told (c .before)) (sym (c .if3 .left))))
 
 -- what was found of the blocks after block 0
-cells-judged : (c : tie.After-judge-cells) → let file = c .before .before .before .before .before .before .before .before .before .before .before .before .before .before .before .args .file .now in c .judge-cells .result ≡ verdict (complaint (cellBlocksTests (cellsOf (runOf file)) file (blocksFor (cellsOf (runOf file)))))
-cells-judged c = rw (cells-told (c .before .before .before)) at (c .judge-cells .ensures)
+cells-judged : (c : tie.After-judge-cells) → let file = c .before .before .before .before .before .before .before .before .before .before .before .before .before .before .before .args .file .now in c .judge-cells .result ≡ verdict (complaint (laterFileBlocksTests (bytesFor (runOf file)) file (fileBlocksFor (bytesFor (runOf file)))))
+cells-judged c = rw (size-told (c .before .before .before)) at (c .judge-cells .ensures)
 
 returns : tie.Need-returns
 unfolding fileTests number
@@ -87,7 +89,7 @@ enum-known-number : tie.Need-enum-known-number
 enum-known-number c = search needs
 
 returns-3 : tie.Need-returns-3
-unfolding fileTests blockAt
+unfolding fileTests fileBlockAt
 returns-3 c = refuse-reply _ (first (first (first (then (some (c .before .before .before .before .before)) (blamed (c .before .before .before .judge-heading .ensures) (c .before .number .given .1))))))
 
 enum-told : tie.Need-enum-told
@@ -109,11 +111,11 @@ returns-4 c = refuse-reply _ (first (first (then (headed (c .before .before .bef
 enum-told-2 : tie.Need-enum-told-2
 enum-told-2 c = search needs
 
-cells-requires : tie.Need-cells-requires
-cells-requires c κs = valid c
+bytes-for-requires : tie.Need-bytes-for-requires
+bytes-for-requires c κs = valid c
 
 file-length-requires : tie.Need-file-length-requires
-file-length-requires c κs = let few = cells-few (valid (c .before)) in let e = c .cells .ensures in omega arith
+file-length-requires c κs = let few = cells-few (valid (c .before)) in let e = c .bytes-for .ensures ∙ cell-bytes _ in omega arith
 
 returns-5 : tie.Need-returns-5
 unfolding fileTests number
@@ -122,7 +124,7 @@ returns-5 c = refuse-reply _ (first (then (limited (c .before .before .before)) 
 judge-cells-requires : tie.Need-judge-cells-requires
 judge-cells-requires c κs =
     let few = cells-few (valid (c .before .before .before)) in
-    let e = c .before .before .cells .ensures in
+    let e = c .before .before .bytes-for .ensures ∙ cell-bytes _ in
     (omega arith, sym (c .if3 .left) ∙ c .before .file-length .ensures)
 
 enum-known-number-3 : tie.Need-enum-known-number-3
@@ -157,7 +159,7 @@ judge-file-spec =
     enum-known-number-2
     returns-4
     enum-told-2
-    cells-requires
+    bytes-for-requires
     file-length-requires
     returns-5
     judge-cells-requires

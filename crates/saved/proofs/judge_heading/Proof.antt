@@ -6,28 +6,28 @@ use lib.Dec.{eqb}
 use lib.ListN.{getD}
 use Rattle.scope.specs.Refusal.{_when_, _andThen_, Layout, number}
 use Rattle.scope.proofs.Judged.{Passes, broken, sound, first, then, both, fine, blamed, refuse-verdict, grant-verdict}
-use Rattle.blocks.specs.Block.{blockTests}
+use Rattle.fileblocks.specs.FileBlock.{fileBlockTests}
 use Rattle.saved.specs.File.{headingTests}
-use Rattle.blocks.proofs.Differs.{differs, agrees}
+use Rattle.scope.proofs.Differs.{differs, agrees}
 use Rattle.saved.proofs.judge_heading.Statement.{statement}
 use Rattle.saved.proofs.judge_heading.Tie as tie
 
 -- the tests in their order, where they are passed
-as-block : (c : tie.After-enum-told) → Passes (blockTests 0 20 (c .before .before .before .before .args .block .now))
-as-block c = fine (c .before .before .judge-block .ensures) (c .enum-told .given .1)
+as-file-block : (c : tie.After-enum-told) → Passes (fileBlockTests 0 20 (c .before .before .before .before .args .block .now))
+as-file-block c = fine (c .before .before .judge-file-block .ensures) (c .enum-told .given .1)
 
-versioned : (c : tie.Else1) → Passes (blockTests 0 20 (c .before .before .before .before .before .before .args .block .now) andThen Layout when not (eqb (getD (c .before .before .before .before .before .before .args .block .now) 4 0) 1))
-versioned c = both (as-block (c .before .before)) (sound (agrees refl refl (c .if1 .left)))
+versioned : (c : tie.Else1) → Passes (fileBlockTests 0 20 (c .before .before .before .before .before .before .args .block .now) andThen Layout when not (eqb (getD (c .before .before .before .before .before .before .args .block .now) 4 0) 1))
+versioned c = both (as-file-block (c .before .before)) (sound (agrees refl refl (c .if1 .left)))
 
-judge-block-requires : tie.Need-judge-block-requires
-judge-block-requires c κs = search needs
+judge-file-block-requires : tie.Need-judge-file-block-requires
+judge-file-block-requires c κs = search needs
 
 enum-known-number : tie.Need-enum-known-number
 enum-known-number c = search needs
 
 returns : tie.Need-returns
 unfolding headingTests
-returns c = refuse-verdict (first (first (blamed (c .before .before .before .judge-block .ensures) (c .before .number .given .1))))
+returns c = refuse-verdict (first (first (blamed (c .before .before .before .judge-file-block .ensures) (c .before .number .given .1))))
 
 enum-told : tie.Need-enum-told
 enum-told c = search needs
@@ -37,7 +37,7 @@ shared-slice-read-if1 c = search needs
 
 returns-2 : tie.Need-returns-2
 unfolding headingTests number
-returns-2 c = refuse-verdict (first (then (as-block (c .before .before)) (broken (differs refl refl (c .if1 .taken)))))
+returns-2 c = refuse-verdict (first (then (as-file-block (c .before .before)) (broken (differs refl refl (c .if1 .taken)))))
 
 sub-zeros-from : tie.Need-sub-zeros-from
 sub-zeros-from c = search needs
@@ -63,7 +63,7 @@ pub judge-heading-spec : {M : Type 1} → statement M
 judge-heading-spec =
     tie.close
     (tie.spec
-    judge-block-requires
+    judge-file-block-requires
     enum-known-number
     returns
     enum-told

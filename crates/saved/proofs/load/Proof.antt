@@ -4,7 +4,8 @@ use Prim.Native.Nat.{_*_, _-_}
 use native.Mathlib.Omega.{arith}
 use borrow.Author.Needs.{needs}
 use lib.ListN.{length}
-use Rattle.saved.specs.File.{blocksFor}
+use Rattle.fileblocks.specs.FileBlock.{contentBytes}
+use Rattle.saved.specs.File.{fileBlocksFor}
 use Rattle.saved.proofs.Cells.{CellsRead, read-none, read-room, read-part, read-more, read-all}
 use Rattle.saved.proofs.load.Statement.{statement}
 use Rattle.saved.proofs.load.Tie as tie
@@ -13,13 +14,13 @@ abbrev Inv-loop : tie.InvT-loop
 Inv-loop file map₀ k₀ map k = CellsRead file map₀ map k
 
 abbrev μ-loop : tie.MeasureT-loop
-μ-loop file map₀ k₀ map k = length map₀ - 504 * k
+μ-loop file map₀ k₀ map k = length map₀ - contentBytes * k
 
 loop-holds : tie.Need-loop-holds Inv-loop μ-loop
 loop-holds c = read-none (c .before .before .pre .0) (c .before .before .pre .1)
 
 mul-loop : tie.Need-mul-loop Inv-loop μ-loop
-unfolding blocksFor
+unfolding fileBlocksFor
 mul-loop c = omega arith
 
 mul-from : tie.Need-mul-from Inv-loop μ-loop

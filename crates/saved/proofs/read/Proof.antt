@@ -7,9 +7,9 @@ use Rattle.scope.specs.Run.{ValidRun, cellsOf}
 use Rattle.scope.specs.Refusal.{number}
 use Rattle.scope.proofs.Judged.{Passes, broken, sound, first, then, both, said-answered, said-refused}
 use Rattle.scope.proofs.Limits.{valid-run, cells-few}
-use Rattle.saved.specs.File.{blocksFor, fileLength, runOf, bytesIn, mapOf, fileTests, readingTests}
+use Rattle.saved.specs.File.{fileBlocksFor, fileLength, bytesFor, runOf, bytesIn, mapOf, fileTests, readingTests}
 use Rattle.saved.specs.Promise.{saysReading}
-use Rattle.blocks.proofs.Differs.{differs, agrees}
+use Rattle.scope.proofs.Differs.{differs, agrees}
 use Rattle.saved.proofs.Promises.{accepted, refuse-reading, grant-reading}
 use Rattle.saved.proofs.read.Statement.{statement}
 use Rattle.saved.proofs.read.Tie as tie
@@ -42,6 +42,7 @@ unfolding readingTests number
 returns c = refuse-reading (then (told (c .before .before) .0) (broken (differs refl (cells-told (c .before)) (c .if1 .taken))))
 
 load-requires : tie.Need-load-requires
+unfolding bytesFor
 load-requires c κs =
     let celled = c .before .before in
     let few = cells-few (valid (celled .before)) in
@@ -57,14 +58,14 @@ same-length : tie.Need-same-length
 same-length c = search needs
 
 returns-3 : tie.Need-returns-3
-unfolding readingTests mapOf
+unfolding readingTests mapOf bytesFor
 returns-3 c =
     let celled = c .before .before .before .before .before in
     let room = c .before .before .before .before .if1 .left ∙ cells-told celled in
     grant-reading
     (both (told (celled .before) .0) (sound (agrees refl (cells-told celled) (c .before .before .before .before .if1 .left))))
     (told (celled .before) .1)
-    (c .before .before .load .ensures ∙ ap (λ n. take n (bytesIn (c .before .before .before .before .before .before .before .before .before .before .before .before .args .file .now) (blocksFor n))) room)
+    (c .before .before .load .ensures ∙ ap (λ n. take n (bytesIn (c .before .before .before .before .before .before .before .before .before .before .before .before .args .file .now) (fileBlocksFor n))) room)
 
 pub read-spec : {M : Type 1} → statement M
 read-spec =

@@ -12,12 +12,12 @@ use Rattle.scope.specs.Run.{ValidRun, cellsOf}
 use Rattle.scope.specs.Refusal.{number, runTests}
 use Rattle.scope.proofs.Judged.{Passes, broken, sound, first, then, both, fine, blamed}
 use Rattle.scope.proofs.Limits.{valid-run, cells-few}
-use Rattle.blocks.specs.Block.{blockOf}
-use Rattle.saved.specs.File.{heading, cellBlocks, blocksFor, fileLength, fileOf, savingTests}
-use Rattle.blocks.proofs.Writing.{Written, written-none, written-part, written-length, written-all}
-use Rattle.blocks.proofs.Block.{length-block}
-use Rattle.saved.proofs.Cells.{length-cellBlocks}
-use Rattle.blocks.proofs.Differs.{differs, agrees}
+use Rattle.fileblocks.specs.FileBlock.{fileBlockBytes, fileBlockOf}
+use Rattle.saved.specs.File.{heading, laterFileBlocks, fileBlocksFor, fileLength, bytesFor, fileOf, savingTests}
+use Rattle.fileblocks.proofs.Writing.{Written, written-none, written-part, written-length, written-all}
+use Rattle.fileblocks.proofs.FileBlock.{length-fileBlockOf}
+use Rattle.saved.proofs.Cells.{cell-bytes, length-laterFileBlocks}
+use Rattle.scope.proofs.Differs.{differs, agrees}
 use Rattle.saved.proofs.Promises.{refuse-saving, grant-saving}
 use Rattle.saved.proofs.save.Statement.{statement}
 use Rattle.saved.proofs.save.Tie as tie
@@ -35,30 +35,31 @@ record Admitted (run : Run) (map file : List ℕ) : Type 0 where
   cells : length map ≡ cellsOf run
   long : length file ≡ fileLength (length map)
 
-admitted : (c : tie.Else2) → Admitted (c .before .before .before .before .before .before .before .before .before .args .run) (c .before .before .before .before .before .before .before .before .before .args .map .now) (c .before .before .before .before .before .before .before .before .before .args .file .now)
+admitted : (c : tie.Else2) → Admitted (c .before .before .before .before .before .before .before .before .before .before .args .run) (c .before .before .before .before .before .before .before .before .before .before .args .map .now) (c .before .before .before .before .before .before .before .before .before .before .args .file .now)
 admitted c =
-    let cells = c .before .before .if1 .left in
-    let few = cells-few (valid (c .before .before .before .before)) in
-    let e = c .before .before .before .cells .ensures in
-    record { few = omega arith; cells = cells ∙ e; long = c .if2 .left ∙ c .before .file-length .ensures ∙ ap fileLength (sym cells) }
+    let counted = c .before .before .before in
+    let cells = counted .if1 .left ∙ counted .before .cells .ensures in
+    let few = cells-few (valid (counted .before .before)) in
+    let size = c .before .before .bytes-for .ensures ∙ cell-bytes _ ∙ sym cells in
+    record { few = omega arith; cells = cells; long = c .if2 .left ∙ c .before .file-length .ensures ∙ ap fileLength size }
 
-module _ {run : Run} {map file part : List ℕ} (s : Admitted run map file) (head : part ≡ blockOf 0 (heading run)) where
+module _ {run : Run} {map file part : List ℕ} (s : Admitted run map file) (head : part ≡ fileBlockOf 0 (heading run)) where
   -- block 0 is written
-  headed : Written file (putMid 0 512 file part) part 512
+  headed : Written file (putMid 0 fileBlockBytes file part) part fileBlockBytes
   unfolding fileLength
-  headed = let l = s .long in written-part 512 part (written-none file) (omega arith) (omega arith) (ap length head ∙ length-block 0 (heading run))
+  headed = let l = s .long in written-part fileBlockBytes part (written-none file) (omega arith) (omega arith) (ap length head ∙ length-fileBlockOf 0 (heading run))
 
   -- the rest of the room is for the cells
-  rest-length : length (midOf 512 (length file - 512) (putMid 0 512 file part)) ≡ 512 * blocksFor (length map)
+  rest-length : length (midOf fileBlockBytes (length file - fileBlockBytes) (putMid 0 fileBlockBytes file part)) ≡ fileBlockBytes * fileBlocksFor (length map)
   unfolding fileLength
-  rest-length = let w = written-length headed in let l = s .long in mid-len 512 (length file) (putMid 0 512 file part) (omega arith) ∙ omega arith
+  rest-length = let w = written-length headed in let l = s .long in mid-len fileBlockBytes (length file) (putMid 0 fileBlockBytes file part) (omega arith) ∙ omega arith
 
   -- the whole room is written
-  whole : {rest : List ℕ} → rest ≡ cellBlocks map (blocksFor (length map)) → putMid 512 (length file - 512) (putMid 0 512 file part) rest ≡ fileOf run map
-  unfolding fileLength fileOf
+  whole : {rest : List ℕ} → rest ≡ laterFileBlocks map (fileBlocksFor (length map)) → putMid fileBlockBytes (length file - fileBlockBytes) (putMid 0 fileBlockBytes file part) rest ≡ fileOf run map
+  unfolding fileLength bytesFor fileOf
   whole {rest} f =
       let l = s .long in
-      let many : length rest ≡ length file - 512 = ap length f ∙ length-cellBlocks map (blocksFor (length map)) ∙ omega arith in
+      let many : length rest ≡ length file - fileBlockBytes = ap length f ∙ length-laterFileBlocks map (fileBlocksFor (length map)) ∙ omega arith in
       written-all (written-part (length file) rest headed (omega arith) (le-refl (length file)) many) refl ∙ rw (head, f, s .cells)
 
 judge-run-requires : tie.Need-judge-run-requires
@@ -81,14 +82,17 @@ returns-2 : tie.Need-returns-2
 unfolding savingTests number
 returns-2 c = refuse-saving (first (then (passes (c .before .before)) (broken (differs refl (c .before .cells .ensures) (c .if1 .taken)))))
 
+bytes-for-requires : tie.Need-bytes-for-requires
+bytes-for-requires c κs = valid (c .before .before)
+
 file-length-requires : tie.Need-file-length-requires
-file-length-requires c κs = let few = cells-few (valid (c .before .before)) in let e = c .before .cells .ensures in omega arith
+file-length-requires c κs = let few = cells-few (valid (c .before .before .before)) in let e = c .bytes-for .ensures ∙ cell-bytes _ in omega arith
 
 returns-3 : tie.Need-returns-3
 unfolding savingTests number
 returns-3 c =
-    let told = c .before .before in
-    refuse-saving (then (both (passes (told .before .before)) (sound (agrees refl (told .before .cells .ensures) (told .if1 .left)))) (broken (differs refl (c .before .file-length .ensures ∙ ap fileLength (told .before .cells .ensures)) (c .if2 .taken))))
+    let told = c .before .before .before in
+    refuse-saving (then (both (passes (told .before .before)) (sound (agrees refl (told .before .cells .ensures) (told .if1 .left)))) (broken (differs refl (c .before .file-length .ensures ∙ ap fileLength (c .before .before .bytes-for .ensures)) (c .if2 .taken))))
 
 sub-write-heading : tie.Need-sub-write-heading
 sub-write-heading c = search needs
@@ -126,10 +130,9 @@ returns-4 : tie.Need-returns-4
 unfolding savingTests
 returns-4 c =
     let sized = c .before .before .before .before .before .before .before .before in
-    let told = c .before .before .before .before .before .before .before .before .before .before in
-    let cells = told .before .cells .ensures in
+    let told = sized .before .before .before in
     grant-saving
-    (both (both (passes (told .before .before)) (sound (agrees refl cells (told .if1 .left)))) (sound (agrees refl (sized .before .file-length .ensures ∙ ap fileLength cells) (sized .if2 .left))))
+    (both (both (passes (told .before .before)) (sound (agrees refl (told .before .cells .ensures) (told .if1 .left)))) (sound (agrees refl (sized .before .file-length .ensures ∙ ap fileLength (sized .before .before .bytes-for .ensures)) (sized .if2 .left))))
     (whole (admitted sized) (c .before .before .before .before .before .before .write-heading .ensures) (c .before .before .write-cells .ensures))
 
 pub save-spec : {M : Type 1} → statement M
@@ -142,6 +145,7 @@ save-spec =
     enum-told
     cells-requires
     returns-2
+    bytes-for-requires
     file-length-requires
     returns-3
     sub-write-heading

@@ -4,8 +4,9 @@ use Prim.Native.Nat.{_*_, _-_}
 use native.Mathlib.Omega.{arith}
 use borrow.Author.Needs.{needs}
 use lib.ListN.{length, length-take, length-drop}
-use Rattle.saved.specs.File.{blocksFor}
-use Rattle.blocks.proofs.Writing.{written-length}
+use Rattle.fileblocks.specs.FileBlock.{contentBytes}
+use Rattle.saved.specs.File.{fileBlocksFor}
+use Rattle.fileblocks.proofs.Writing.{written-length}
 use Rattle.saved.proofs.Cells.{CellsWritten, cells-none, cells-more, cells-room, cells-all}
 use Rattle.saved.proofs.write_cells.Statement.{statement}
 use Rattle.saved.proofs.write_cells.Tie as tie
@@ -14,13 +15,13 @@ abbrev Inv-loop : tie.InvT-loop
 Inv-loop map room₀ k₀ room k = CellsWritten map room₀ room k
 
 abbrev μ-loop : tie.MeasureT-loop
-μ-loop map room₀ k₀ room k = length map - 504 * k
+μ-loop map room₀ k₀ room k = length map - contentBytes * k
 
 loop-holds : tie.Need-loop-holds Inv-loop μ-loop
 loop-holds c = cells-none (c .before .before .pre .0) (c .before .before .pre .1)
 
 mul-loop : tie.Need-mul-loop Inv-loop μ-loop
-unfolding blocksFor
+unfolding fileBlocksFor
 mul-loop c = omega arith
 
 mul-from : tie.Need-mul-from Inv-loop μ-loop
@@ -38,32 +39,32 @@ mul-at c = omega arith
 add-next : tie.Need-add-next Inv-loop μ-loop
 add-next c = omega arith
 
-add-write-block : tie.Need-add-write-block Inv-loop μ-loop
-add-write-block c = omega arith
+add-write-file-block : tie.Need-add-write-file-block Inv-loop μ-loop
+add-write-file-block c = omega arith
 
-cast-write-block : tie.Need-cast-write-block Inv-loop μ-loop
-cast-write-block c = omega arith
+cast-write-file-block : tie.Need-cast-write-file-block Inv-loop μ-loop
+cast-write-file-block c = omega arith
 
-sub-write-block : tie.Need-sub-write-block Inv-loop μ-loop
-sub-write-block c = omega arith
+sub-write-file-block : tie.Need-sub-write-file-block Inv-loop μ-loop
+sub-write-file-block c = omega arith
 
-part-write-block-start : tie.Need-part-write-block-start Inv-loop μ-loop
-part-write-block-start c = omega arith
+part-write-file-block-start : tie.Need-part-write-file-block-start Inv-loop μ-loop
+part-write-file-block-start c = omega arith
 
-part-write-block-end : tie.Need-part-write-block-end Inv-loop μ-loop
-part-write-block-end c = omega arith
+part-write-file-block-end : tie.Need-part-write-file-block-end Inv-loop μ-loop
+part-write-file-block-end c = omega arith
 
-sub-write-block-2 : tie.Need-sub-write-block-2 Inv-loop μ-loop
-sub-write-block-2 c = omega arith
+sub-write-file-block-2 : tie.Need-sub-write-file-block-2 Inv-loop μ-loop
+sub-write-file-block-2 c = omega arith
 
-part-write-block-start-2 : tie.Need-part-write-block-start-2 Inv-loop μ-loop
-part-write-block-start-2 c = omega arith
+part-write-file-block-start-2 : tie.Need-part-write-file-block-start-2 Inv-loop μ-loop
+part-write-file-block-start-2 c = omega arith
 
-part-write-block-end-2 : tie.Need-part-write-block-end-2 Inv-loop μ-loop
-part-write-block-end-2 c = cells-room (c .before .before .before .loop .inv) (c .before .before .loop-test .taken)
+part-write-file-block-end-2 : tie.Need-part-write-file-block-end-2 Inv-loop μ-loop
+part-write-file-block-end-2 c = cells-room (c .before .before .before .loop .inv) (c .before .before .loop-test .taken)
 
-write-block-requires : tie.Need-write-block-requires Inv-loop μ-loop
-write-block-requires c κs =
+write-file-block-requires : tie.Need-write-file-block-requires Inv-loop μ-loop
+write-file-block-requires c κs =
     let r = cells-room (c .before .before .before .before .loop .inv) (c .before .before .before .loop-test .taken) in
     (simp (length-take, length-drop) (omega arith), simp (length-take, length-drop) (omega arith))
 
@@ -76,7 +77,7 @@ loop-less c = omega arith
 loop-again : tie.Need-loop-again Inv-loop μ-loop
 loop-again c =
     let turn = c .before .before .before .before .before in
-    cells-more (turn .before .before .loop .inv) (turn .before .loop-test .taken) (turn .least .ensures) (c .before .before .write-block .ensures)
+    cells-more (turn .before .before .loop .inv) (turn .before .loop-test .taken) (turn .least .ensures) (c .before .before .write-file-block .ensures)
 
 same-length : tie.Need-same-length Inv-loop μ-loop
 same-length c = written-length (c .before .loop .inv .written)
@@ -97,15 +98,15 @@ write-cells-spec =
     least-requires
     mul-at
     add-next
-    add-write-block
-    cast-write-block
-    sub-write-block
-    part-write-block-start
-    part-write-block-end
-    sub-write-block-2
-    part-write-block-start-2
-    part-write-block-end-2
-    write-block-requires
+    add-write-file-block
+    cast-write-file-block
+    sub-write-file-block
+    part-write-file-block-start
+    part-write-file-block-end
+    sub-write-file-block-2
+    part-write-file-block-start-2
+    part-write-file-block-end-2
+    write-file-block-requires
     add-k
     loop-less
     loop-again

@@ -7,11 +7,11 @@ use mathlib.Core.List.{List, [], _∷_, _++_}
 use lib.ListN.{length, replicate}
 use borrow.Rule.Slice.PartMut.{putMid}
 use Rattle.scope.specs.declared.Run.{Run}
-use Rattle.blocks.specs.Block.{four, blockOf}
+use Rattle.fileblocks.specs.FileBlock.{four, fileBlockOf}
 use Rattle.saved.specs.File.{heading}
-use Rattle.blocks.proofs.Block.{length-four}
+use Rattle.fileblocks.proofs.FileBlock.{length-four}
 use Rattle.saved.proofs.Heading.{length-heading}
-use Rattle.blocks.proofs.Writing.{Written, written-part, written-length, written-all}
+use Rattle.fileblocks.proofs.Writing.{Written, written-part, written-length, written-all}
 use Rattle.saved.proofs.write_heading.Statement.{statement}
 use Rattle.saved.proofs.write_heading.Tie as tie
 
@@ -92,17 +92,17 @@ put-four-requires-4 c κs = search needs
 written : (c : tie.After-put-four4) → putMid 16 4 (putMid 12 4 (putMid 8 4 (putMid 4 4 blank (c .before .before .before .before .before .before .before .before .before .put-four .last .0)) (c .before .before .before .before .before .before .put-four2 .last .0)) (c .before .before .before .put-four3 .last .0)) (c .put-four4 .last .0) ≡ heading (c .before .before .before .before .before .before .before .before .before .before .before .before .args .run)
 written c = whole _ (c .before .before .before .before .before .before .before .before .before .put-four .ensures) (c .before .before .before .before .before .before .put-four2 .ensures) (c .before .before .before .put-four3 .ensures) (c .put-four4 .ensures)
 
-slice-aggregate-write-block : tie.Need-slice-aggregate-write-block
-slice-aggregate-write-block c = sym (ap length (written (c .before .before)) ∙ length-heading _)
+slice-aggregate-write-file-block : tie.Need-slice-aggregate-write-file-block
+slice-aggregate-write-file-block c = sym (ap length (written (c .before .before)) ∙ length-heading _)
 
-write-block-requires : tie.Need-write-block-requires
-write-block-requires c κs = (let l = ap length (written (c .before .before .before)) ∙ length-heading _ in omega arith, search needs)
+write-file-block-requires : tie.Need-write-file-block-requires
+write-file-block-requires c κs = (let l = ap length (written (c .before .before .before)) ∙ length-heading _ in omega arith, search needs)
 
 same-length : tie.Need-same-length
 same-length c = search needs
 
 returns : tie.Need-returns
-returns c = c .before .before .write-block .ensures ∙ ap (blockOf 0) (written (c .before .before .before .before .before .before))
+returns c = c .before .before .write-file-block .ensures ∙ ap (fileBlockOf 0) (written (c .before .before .before .before .before .before))
 
 pub write-heading-spec : {M : Type 1} → statement M
 write-heading-spec =
@@ -125,7 +125,7 @@ write-heading-spec =
     part-bytes-start-4
     part-bytes-end-4
     put-four-requires-4
-    slice-aggregate-write-block
-    write-block-requires
+    slice-aggregate-write-file-block
+    write-file-block-requires
     same-length
     returns)

@@ -11,6 +11,7 @@ use Rattle.scope.specs.Refusal.{complaint}
 use Rattle.scope.specs.InnerVerdict.{verdict}
 use Rattle.scope.specs.declared.Verdict.{Verdict}
 use Rattle.scope.specs.declared.Verdict.the-variants.{Fine}
+use Rattle.scope.specs.Run.{ceiling}
 use Rattle.sources.specs.Entry.{entriesOf, entryTests, listTests}
 use Rattle.scope.specs.InnerVerdict.{firstOf}
 use Rattle.sources.proofs.Entries.{entry, entries-from}
@@ -20,7 +21,7 @@ use Rattle.sources.proofs.judge_entries.Tie as tie
 
 -- the verdict on the sources from place k on, counted from 0
 abbrev rest : List ℕ → List ℕ → ℕ → Verdict
-rest periods weights k = verdict (complaint (listTests 255 (suc k) (entriesOf (drop k periods) (drop k weights))))
+rest periods weights k = verdict (complaint (listTests ceiling (suc k) (entriesOf (drop k periods) (drop k weights))))
 
 record From (periods weights : List ℕ) (said : Verdict) (k : ℕ) : Type 0 where
   equal : length periods ≡ length weights
@@ -32,13 +33,13 @@ unfolding firstOf
 starts e = record { equal = e; within = omega arith; whole = refl }
 
 module _ {periods weights : List ℕ} {said : Verdict} {k : ℕ} (from : From periods weights said k) where
-  rest-is : k < length periods → rest periods weights k ≡ firstOf (verdict (complaint (entryTests 255 (entry (getD periods k 0) (getD weights k 0))))) (rest periods weights (suc k))
+  rest-is : k < length periods → rest periods weights k ≡ firstOf (verdict (complaint (entryTests ceiling (entry (getD periods k 0) (getD weights k 0))))) (rest periods weights (suc k))
   unfolding listTests
   rest-is h =
       let l = from .equal in
       rw (entries-from periods weights k h (omega arith), verdict-then, verdict-source)
 
-  steps : {next said′ : Verdict} → k < length periods → next ≡ verdict (complaint (entryTests 255 (entry (getD periods k 0) (getD weights k 0)))) → said′ ≡ firstOf said next → From periods weights said′ (k + 1)
+  steps : {next said′ : Verdict} → k < length periods → next ≡ verdict (complaint (entryTests ceiling (entry (getD periods k 0) (getD weights k 0)))) → said′ ≡ firstOf said next → From periods weights said′ (k + 1)
   steps h e f =
       record {
         equal = from .equal;

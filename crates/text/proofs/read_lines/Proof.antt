@@ -3,8 +3,9 @@ use mathlib.Core.Path.{refl, _∙_, subst}
 use native.Mathlib.Omega.{arith}
 use borrow.Author.Needs.{needs}
 use Rattle.scope.specs.Refusal.{number}
-use Rattle.text.specs.Inner.{LineAt, LinesAt}
-use Rattle.text.proofs.Lines.{hand-on}
+use Rattle.words.specs.Inner.{LineAt}
+use Rattle.words.proofs.Lines.{hand-on}
+use Rattle.text.specs.Inner.{LinesAt}
 use Rattle.text.proofs.Answers.{too-long, no-run, all-lines}
 use Rattle.text.proofs.read_lines.Statement.{statement}
 use Rattle.text.proofs.read_lines.Tie as tie
@@ -29,10 +30,11 @@ same-length : tie.Need-same-length
 same-length c = c .before .before .before .before .read-line .kept .1 .1 .1 .0
 
 returns-2 : tie.Need-returns-2
+unfolding number
 returns-2 c =
     let read = c .before .before .before .before in
-    hand-on (c .enum-told .given .1) (LineAt _ _ _ _ _) (LinesAt _ _ _ _ _ _ _) (read .read-line .ensures)
-    (λ r. (r .0, no-run (read .before .before .before .before .before .before .before .before .pre) (r .1 .none)))
+    hand-on (c .enum-told .given .1) (LineAt _ _ _ _ _ _) (LinesAt _ _ _ _ _ _ _) (read .read-line .ensures)
+    (λ r. (r .0, no-run (read .before .before .before .before .before .before .before .before .pre) (r .1)))
 
 read-sources-requires : tie.Need-read-sources-requires
 read-sources-requires c κs = search needs
@@ -51,7 +53,7 @@ returns-3 c =
     let sources = c .before .before .before .before .read-sources in
     let told = c .before .before .before .before .before .before .before .before in
     let read = told .before .before .before .before .before in
-    all-lines (subst (LineAt _ _ _ _ _) (told .before .run .given .1) (read .read-line .ensures)) (read .read-line .kept .1 .1 .1 .0 ∙ read .before .before .before .before .before .before .before .before .pre)
+    all-lines (subst (LineAt _ _ _ _ _ _) (told .before .run .given .1) (read .read-line .ensures)) (read .read-line .kept .1 .1 .1 .0 ∙ read .before .before .before .before .before .before .before .before .pre)
     (omega (arith, read .before .before .before .if1 .left)) _ _ _ _ _ (sources .result) (sources .ensures)
 
 pub read-lines-spec : {M : Type 1} → statement M

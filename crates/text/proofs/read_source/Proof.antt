@@ -1,8 +1,11 @@
 -- `text::read_source` meets its contract: a line with two numbers is a source and its weight. Assumes nothing.
-use mathlib.Core.Path.{refl, subst}
+use mathlib.Core.Path.{subst}
 use borrow.Author.Needs.{needs}
-use Rattle.text.specs.Inner.{LineAt, SourceAt}
-use Rattle.text.proofs.Lines.{hand-on, line-two}
+use Rattle.scope.specs.Refusal.{number}
+use Rattle.words.specs.Inner.{LineAt}
+use Rattle.words.proofs.Lines.{hand-on}
+use Rattle.text.specs.Inner.{SourceAt}
+use Rattle.text.proofs.Lines.{line-two}
 use Rattle.text.proofs.read_source.Statement.{statement}
 use Rattle.text.proofs.read_source.Tie as tie
 
@@ -22,9 +25,10 @@ enum-told : tie.Need-enum-told
 enum-told c = search needs
 
 returns : tie.Need-returns
+unfolding number
 returns c =
-    hand-on (c .enum-told .given .1) (LineAt _ _ _ _ _) (SourceAt _ _ _ _ _ _ _) (c .before .before .before .read-line .ensures)
-    (λ r. (r .0, record { none = r .1 .none; keptPeriods = refl; keptWeights = refl }))
+    hand-on (c .enum-told .given .1) (LineAt _ _ _ _ _ _) (SourceAt _ _ _ _ _ _ _) (c .before .before .before .read-line .ensures)
+    (λ r. r)
 
 array-read-put : tie.Need-array-read-put
 array-read-put c = search needs
@@ -53,7 +57,7 @@ returns-2 c =
     record {
       period = _;
       weight = _;
-      stands = line-two (subst (LineAt _ _ _ _ _) (told .before .line .given .1) (read .ensures)) (read .kept .1 .1 .1 .0);
+      stands = line-two (subst (LineAt _ _ _ _ _ _) (told .before .line .given .1) (read .ensures)) (read .kept .1 .1 .1 .0);
       storesPeriod = first .put .ensures;
       storesWeight = second .put2 .ensures;
     }

@@ -6,7 +6,7 @@ use native.Mathlib.Omega.{arith}
 use borrow.Author.Needs.{needs}
 use lib.ListN.{length}
 use Rattle.text.specs.Inner.{SourceStored, SourceAt, SourcesAt}
-use Rattle.text.proofs.Lines.{hand-on}
+use Rattle.words.proofs.Lines.{hand-on}
 use Rattle.text.proofs.Listing.{Listing, listing-none, listing-more, listing-ends, listing-fails, line-ends}
 use Rattle.text.proofs.read_sources.Statement.{statement}
 use Rattle.text.proofs.read_sources.Tie as tie

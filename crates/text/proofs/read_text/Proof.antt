@@ -5,9 +5,10 @@ use native.Mathlib.Omega.{arith}
 use borrow.Author.Needs.{needs}
 use borrow.Author.Tests.{ltb-false, lt-ltb, le-ltb}
 use lib.Dec.{ltb}
-use lib.ListN.{length, take, replicate}
+use lib.ListN.{length, take}
 use lib.Seq.{length-take-le}
-use Rattle.scope.specs.Run.{cellsOf}
+use Rattle.rooms.specs.Lists.{zeros}
+use Rattle.scope.specs.Run.{ceiling, cellsOf}
 use Rattle.scope.specs.Refusal.{_when_, _andThen_, TooMany, complaint, number, runTests}
 use Rattle.scope.specs.InnerVerdict.{verdict}
 use Rattle.scope.proofs.Judged.{Passes, Fails, broken, sound, first, then, both, fine, blamed}
@@ -16,7 +17,8 @@ use Rattle.sources.specs.Entry.{entriesOf, listTests}
 use Rattle.scope.proofs.Verdicts.{verdict-then}
 use Rattle.text.specs.Form.{runWord, runNumbers, Content, Spells}
 use Rattle.text.specs.Promise.{textTests}
-use Rattle.text.specs.Inner.{Line, AllLines, LinesAt}
+use Rattle.words.specs.Inner.{Line}
+use Rattle.text.specs.Inner.{AllLines, LinesAt}
 use Rattle.text.proofs.Lines.{line-run}
 use Rattle.text.proofs.Answers.{has-form, refuses-form, refuses, accepts, entries-stored}
 use Rattle.text.proofs.read_text.Statement.{statement}
@@ -25,7 +27,8 @@ use Rattle.text.proofs.read_text.Tie as tie
 -- the lines that were read
 lines-read : (c : tie.After-enum-told)
     → let after = c .before .before .before .before .before .read-lines .last .1 in
-    AllLines (c .before .before .before .before .before .before .before .before .before .before .before .args .text .now) (after .0) (replicate 64 0) (replicate 64 0) (after .1 .0) (after .1 .1 .0) (after .1 .1 .1 .0) (c .enum-told .given .0 .0)
+    AllLines (c .before .before .before .before .before .before .before .before .before .before .before .args .text .now) (after .0) (zeros 64) (zeros 64) (after .1 .0) (after .1 .1 .0) (after .1 .1 .1 .0) (c .enum-told .given .0 .0)
+unfolding zeros
 lines-read c = subst (LinesAt _ _ _ _ _ _ _) (c .enum-told .given .1) (c .before .before .before .before .before .read-lines .ensures)
 
 -- the `run` line
@@ -139,7 +142,7 @@ enum-told-2 : tie.Need-enum-told-2
 enum-told-2 c = search needs
 
 cells-requires : tie.Need-cells-requires
-cells-requires c κs = valid-run (passes-first (few-passes c)) (omega (arith, run-read (c .before .before .before .before .before) .small .1 .0))
+cells-requires c κs = valid-run (passes-first (few-passes c)) (omega (arith, run-read (c .before .before .before .before .before) .small 1))
 
 refuse-requires-3 : tie.Need-refuse-requires-3
 refuse-requires-3 c κs = search needs
@@ -180,7 +183,7 @@ returns-4 c =
     let cells = entries .before .before .before in
     refuses (formed (cells .before .before .before .before .before .before .before))
     (then (cells-passes cells)
-    (subst (λ es. Fails (listTests 255 1 es) (c .before .before .number3 .given .0 .0)) (entries-judged cells) (blamed (entries .judge-entries .ensures) (c .before .before .number3 .given .1))))
+    (subst (λ es. Fails (listTests ceiling 1 es) (c .before .before .number3 .given .0 .0)) (entries-judged cells) (blamed (entries .judge-entries .ensures) (c .before .before .number3 .given .1))))
     (c .refuse4 .ensures)
 
 enum-told-3 : tie.Need-enum-told-3
@@ -194,7 +197,7 @@ returns-5 c =
     let run = cells .before .before .before .before .before .before .before in
     accepts (lines-read (run .before) .lists) (few (cells .before .before)) (formed run)
     (both (cells-passes cells)
-    (subst (λ es. Passes (listTests 255 1 es)) (entries-judged cells) (fine (entries .judge-entries .ensures) (c .enum-told3 .given .1))))
+    (subst (λ es. Passes (listTests ceiling 1 es)) (entries-judged cells) (fine (entries .judge-entries .ensures) (c .enum-told3 .given .1))))
 
 pub read-text-spec : {M : Type 1} → statement M
 read-text-spec =

@@ -1,0 +1,5 @@
+pub mod Writing
+pub mod Number
+pub mod Filling
+pub mod FileBlock
+pub mod Table

@@ -1,0 +1,2 @@
+pub mod FileBlock
+pub mod Table

@@ -1,0 +1,23 @@
+-- Document 01, "The refusal numbers", as propositions: the rows of the first-hit call and of the listing, in their order.
+use Prim.Native.Nat.{ℕ, _≤_}
+use mathlib.Core.Path.{_≡_}
+use mathlib.Core.List.{List, [], _∷_, _++_}
+use lib.ListN.{length}
+use Rattle.scope.specs.declared.Run.{Run}
+use Rattle.scope.specs.declared.Source.{Source}
+use Rattle.scope.specs.declared.RunCell.{RunCell}
+use Rattle.scope.specs.Run.{cellsOf}
+use Rattle.scope.specs.Table.{Row, _given_, BadPeriod, runTable}
+
+-- "First hit and listing: 1, 2, 3, 4, 8, 9 (no weight there)." A first-hit call has no room.
+abbrev pub firstHitTable : Run → Source → RunCell → List Row
+firstHitTable run source start =
+    runTable run ++
+    4 given BadPeriod (source .period) ∷
+    8 given (cellsOf run ≤ start .0) ∷ []
+
+-- The same with 9.
+abbrev pub listingTable : Run → Source → RunCell → List ℕ → List Row
+listingTable run source start room =
+    firstHitTable run source start ++
+    9 given (length room ≡ 0) ∷ []

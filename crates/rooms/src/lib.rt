@@ -1,0 +1,37 @@
+// Lent rooms: a number stored, bytes written one after the other; and a byte widened.
+// Every function is proved. No function here is a public operation: each is an inner step of the crates above.
+ghost use Prim.Native.Nat.{_+_, _≤_};
+ghost use mathlib.Core.Path.{_≡_};
+ghost use lib.ListN.{length, set};
+ghost use Rattle.rooms.specs.InnerRooms.{Written};
+
+// Inner step. The same number in 64 bits.
+pub fn wide(byte: u8) -> u64
+    ensures { λ r. ⌜ r ≡ byte ⌝ }
+{
+    byte as u64
+}
+
+// Inner step. Stores a number in the room at k where the room is so long, and nothing elsewhere.
+pub fn put(room: &mut [u32], k: usize, number: u32)
+    ensures { λ _. ⌜ now (room .exit) ≡ set (now (room .entry)) k number ⌝ }
+{
+    if k < room.len() {
+        room[k] = number;
+    }
+}
+
+// Inner step. Writes bytes into the room at `at` and answers where they end; the caller sees to it that they fit.
+pub fn write_bytes(room: &mut [u8], at: usize, bytes: &[u8]) -> usize
+    requires { ⌜ at + length (now bytes) ≤ length (now room) ⌝ }
+    ensures { λ r. ⌜ Written (now (room .entry)) at (now (bytes .entry)) r (now (room .exit)) ⌝ }
+{
+    let mut next = at;
+    let mut k = 0;
+    while k < bytes.len() {
+        room[next] = bytes[k];
+        next += 1;
+        k += 1;
+    }
+    next
+}

@@ -1,0 +1,17 @@
+-- The tests of what a text says are those of its table, row by row. Assumes nothing.
+use lib.ListN.{length}
+use Rattle.scope.specs.Run.{cellsOf}
+use Rattle.scope.specs.Refusal.{number}
+use Rattle.scope.proofs.Rendered.{Renders, _next_, one, either, then-two}
+use Rattle.scope.proofs.Table.{below, run-renders}
+use Rattle.sources.proofs.Table.{sources-renders}
+use Rattle.text.specs.Form.{Content}
+use Rattle.text.specs.Promise.{textTests}
+use Rattle.text.specs.Table.{textTable}
+
+-- "Text: 11, 1, 2, 3, 12, then each source 4 before 7", after 11
+pub text-renders : (content : Content) → Renders (textTests content) (textTable content)
+unfolding textTests number
+text-renders content =
+    then-two (run-renders (content .run) next either (one (below 64 (length (content .entries)))) (one (below 65536 (cellsOf (content .run))))) next
+    sources-renders 1 (content .entries)
