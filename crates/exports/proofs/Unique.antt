@@ -25,7 +25,7 @@ use Rattle.exports.specs.Promise.{Exported}
 use Rattle.exports.specs.Replies.{tellSteps, tellFirst, tellListing, tellAdded, tellSaved, tellLoaded, tellText}
 
 -- Where no second reply fits, no second answer does. (Two promises: of what is lent, each may name what it holds afterwards.)
-pub answer-unique : {A B : Type 0} {Promise Other : A → Type 0} {told : A → B} {a b : B} → ((r s : A) → Promise r → Other s → r ≡ s) → Exported Promise told a → Exported Other told b → a ≡ b
+answer-unique : {A B : Type 0} {Promise Other : A → Type 0} {told : A → B} {a b : B} → ((r s : A) → Promise r → Other s → r ≡ s) → Exported Promise told a → Exported Other told b → a ≡ b
 answer-unique {told = told} unique x y = x .is ∙ ap told (unique (x .reply) (y .reply) (x .promised) (y .promised)) ∙ sym (y .is)
 
 -- `zenithgong_step_vectors`: one answer.

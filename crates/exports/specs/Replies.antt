@@ -1,8 +1,6 @@
 -- The numbers that tell each operation's reply. A refusal has its number and zeros beside it; any other reply has 0 for the refusal.
 use Prim.Native.Nat.{ℕ}
 use lib.IntN.{pos}
-use Rattle.scope.specs.declared.Source.{Source}
-use Rattle.scope.specs.declared.RunCell.{RunCell}
 use Rattle.vectors.specs.declared.Steps.{Steps}
 use Rattle.vectors.specs.declared.Steps.the-variants.{Pair, Single, Refused as Refused·steps}
 use Rattle.hits.specs.declared.FirstHit.{FirstHit}
@@ -23,14 +21,6 @@ use Rattle.exports.specs.declared.FirstHitReply.{FirstHitReply}
 use Rattle.exports.specs.declared.ListingReply.{ListingReply}
 use Rattle.exports.specs.declared.RunReply.{RunReply}
 use Rattle.exports.specs.declared.TextReply.{TextReply}
-
--- The source with a period.
-abbrev pub sourceWith : ℕ → Source
-sourceWith period = record { period = period }
-
--- The cell with a number.
-abbrev pub cellWith : ℕ → RunCell
-cellWith x = record { 0 = x }
 
 -- The step vectors: a pair is two vectors, the one that leads left first, and a single vector is one.
 abbrev pub tellSteps : Steps → StepsReply

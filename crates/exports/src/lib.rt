@@ -20,7 +20,7 @@ ghost use Rattle.map.specs.Promise.{MapPromise};
 ghost use Rattle.saved.specs.Promise.{SavingPromise, ReadingPromise};
 ghost use Rattle.text.specs.Promise.{TextPromise};
 ghost use Rattle.exports.specs.Promise.{Exported};
-ghost use Rattle.exports.specs.Replies.{sourceWith, cellWith, tellSteps, tellFirst, tellListing, tellAdded, tellSaved, tellLoaded, tellAnswer, tellText};
+ghost use Rattle.exports.specs.Replies.{tellSteps, tellFirst, tellListing, tellAdded, tellSaved, tellLoaded, tellAnswer, tellText};
 
 // The step vectors.
 #[repr(C)]
@@ -256,7 +256,7 @@ pub extern "C" fn zenithgong_first_hit(
     period: u32,
     start: u64,
 ) -> FirstHitReply
-    ensures { λ r. ⌜ Exported (FirstHitPromise (runWith window interval first last) (sourceWith period) (cellWith start)) tellFirst r ⌝ }
+    ensures { λ r. ⌜ Exported (FirstHitPromise (runWith window interval first last) (record { period = period }) (record { 0 = start })) tellFirst r ⌝ }
 {
     let run = run_with(window, interval, first, last);
     tell_first(hits::first_hit(run, Source { period }, RunCell(start)))
@@ -273,7 +273,7 @@ pub extern "C" fn zenithgong_list_hits(
     start: u64,
     room: &mut [u64],
 ) -> ListingReply
-    ensures { λ r. ⌜ Exported (λ reply. ListingPromise (runWith window interval first last) (sourceWith period) (cellWith start) (now (room .entry)) reply (now (room .exit))) tellListing r ⌝ }
+    ensures { λ r. ⌜ Exported (λ reply. ListingPromise (runWith window interval first last) (record { period = period }) (record { 0 = start }) (now (room .entry)) reply (now (room .exit))) tellListing r ⌝ }
 {
     let run = run_with(window, interval, first, last);
     tell_listing(hits::list_hits(run, Source { period }, RunCell(start), room))

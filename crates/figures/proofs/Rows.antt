@@ -39,7 +39,7 @@ use Rattle.map.proofs.Unique.{map-unique}
 use Rattle.hits.specs.declared.Listing.{Listing}
 use Rattle.hits.specs.declared.Listing.the-variants.{Done, More, Refused}
 use Rattle.hits.specs.Promise.{firstHitTests, listingTests, first as first-of, Listed, saysListing, listed, written, ListingPromise}
-use Rattle.figures.specs.Table.{HitPlace, vectors, hits, mapped, saved, Holds}
+use Rattle.figures.specs.Table.{vectors, hits, mapped, saved, Holds}
 
 -- ---- vectors
 
@@ -97,7 +97,7 @@ map-pos-same a b e = sym (back a) ∙ ap (map natAbs) e ∙ back b
     back [] = refl
     back (x ∷ xs) = ap (x ∷_) (back xs)
 
-module _ (p r I first last : ℕ) (figure : List HitPlace) (cells : List ℕ)
+module _ (p r I first last : ℕ) (figure : List (ℤ × ℕ)) (cells : List ℕ)
     (window : complaint (windowTests I) ≡ none)
     (lines : complaint (lineTests first last) ≡ none)
     (period : complaint (periodTests p) ≡ none)
@@ -105,7 +105,7 @@ module _ (p r I first last : ℕ) (figure : List HitPlace) (cells : List ℕ)
     (are : hitsFrom (runWith I r first last) (record { period = p }) 0 ≡ cells)
     (many : length cells ≡ length figure)
     (some : True (ltb 0 (length figure)))
-    (at : (T : ℕ) → map pos cells ≡ map (λ place. cellOf (runWith I T first last) (place .offset) (place .line)) figure) where
+    (at : (T : ℕ) → map pos cells ≡ map (λ hit. cellOf (runWith I T first last) (hit .0) (hit .1)) figure) where
   -- the hits of every interval with the remainder r, and room for them
   module _ (T : ℕ) (ticks : 1 ≤ T) (remainder : T % p ≡ r) (room : List ℕ) (e : length room ≡ length figure) where
     granted : Passes (listingTests (runWith I T first last) (record { period = p }) (record { 0 = 0 }) room)

@@ -11,7 +11,8 @@ use Rattle.sources.specs.Entry.{entriesOf, entryTests, listTests}
 use Rattle.map.specs.Sum.{raised}
 use Rattle.map.specs.Promise.{mapTests, weightAt, added}
 use Rattle.vectors.specs.Promise.{vectorsTests}
-use Rattle.fileblocks.specs.FileBlock.{four, fourAt, weighted, checkOf, filled, sealed, fileBlockOf}
+use Rattle.rooms.specs.Lists.{zeros}
+use Rattle.fileblocks.specs.FileBlock.{four, fourAt, weighted, checkOf, filled, fileBlockOf}
 use Rattle.saved.specs.File.{heading, firstJoined, laterFileBlocks, fileBlocksFor, fileLength, bytesFor, fileOf}
 use Rattle.figures.specs.Table.{Figure, Holds, hits-1-11, example, exampleMap, table}
 use Rattle.figures.proofs.Rows.{vectors-row, is-pair, gcd-divisor, gcd-zero, hits-row, map-row, saved-row}
@@ -23,7 +24,7 @@ All (figure ∷ figures) = Holds figure × All figures
 
 -- each row, by computing its conditions: the tests, the divisions, the list of hits, the cells of the map, the bytes of the file
 rows : All table
-unfolding vectorsTests mapTests runTests windowTests lineTests periodTests weightTests entryTests listTests entriesOf complaint number hitsFrom hitsAmong added raised weightAt isHit instant lineOf offsetOf cellOf cellsOf linesOf fileLength fileBlocksFor bytesFor fileOf heading laterFileBlocks firstJoined fileBlockOf sealed filled four fourAt checkOf weighted
+unfolding vectorsTests mapTests runTests windowTests lineTests periodTests weightTests entryTests listTests entriesOf complaint number hitsFrom hitsAmong added raised weightAt isHit instant lineOf offsetOf cellOf cellsOf linesOf fileLength fileBlocksFor bytesFor fileOf heading laterFileBlocks firstJoined fileBlockOf filled zeros four fourAt checkOf weighted
 rows = (
   vectors-row 7 3 4 _ (is-pair 7 3 4 _ _ _ _ refl refl tt tt tt tt tt tt tt refl),
   (

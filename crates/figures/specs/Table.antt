@@ -23,17 +23,12 @@ use Rattle.hits.specs.declared.Listing.{Listing}
 use Rattle.hits.specs.declared.Listing.the-variants.{Done}
 use Rattle.hits.specs.Promise.{ListingPromise}
 
--- A place of a hit, "as offset, line".
-pub record HitPlace : Type 0 where
-  pub offset : ℤ
-  pub line : ℕ
-
 -- A row of the table.
 pub data Figure : Type 0 where
   -- "p, r, I: reply"
   vectors : (p r I : ℕ) → Said Values → Figure
   -- "p, r, I .. Hits on lines 1-11 as offset, line": of a period, a remainder, a window, and the first and last line
-  hits : (p r I first last : ℕ) → List HitPlace → Figure
+  hits : (p r I first last : ℕ) → List (ℤ × ℕ) → Figure
   -- "The map above": of a run, the periods and weights listed, and the cells of the map, which was clear before
   mapped : Run → (periods weights cells : List ℕ) → Figure
   -- "saved, it is 1,024 bytes with checks 294 and 22,327": of a run and its map, the length and the checks of the two blocks
@@ -47,7 +42,7 @@ Holds (vectors p r I figure) = (steps : Steps) → VectorsPromise p r I steps �
 Holds (hits p r I first last figure) =
     (T : ℕ) → 1 ≤ T → T % p ≡ r → (room : List ℕ) → length room ≡ length figure → (reply : Listing) (after : List ℕ) →
     ListingPromise (runWith I T first last) (record { period = p }) (record { 0 = 0 }) room reply after ↔
-    ((reply ≡ Done (length figure)) × (map pos after ≡ map (λ place. cellOf (runWith I T first last) (place .offset) (place .line)) figure))
+    ((reply ≡ Done (length figure)) × (map pos after ≡ map (λ hit. cellOf (runWith I T first last) (hit .0) (hit .1)) figure))
 Holds (mapped run periods weights figure) =
     (answer : Added) (after : List ℕ) →
     MapPromise run periods weights (replicate (length figure) 0) answer after ↔ ((answer ≡ Done·map) × (after ≡ figure))
@@ -62,13 +57,9 @@ Holds (saved run cells size first second) =
 abbrev pub minus : ℕ → ℤ
 minus n = lib.IntN.negℤ (pos n)
 
--- A place, as in (-3,2).
-abbrev pub place : ℤ → ℕ → HitPlace
-place offset line = record { offset = offset; line = line }
-
 -- "(-3,2) (1,3) (-2,5) (2,6) (-1,8) (0,11)".
-abbrev pub hits-1-11 : List HitPlace
-hits-1-11 = place (minus 3) 2 ∷ place (pos 1) 3 ∷ place (minus 2) 5 ∷ place (pos 2) 6 ∷ place (minus 1) 8 ∷ place (pos 0) 11 ∷ []
+abbrev pub hits-1-11 : List (ℤ × ℕ)
+hits-1-11 = (minus 3, 2) ∷ (pos 1, 3) ∷ (minus 2, 5) ∷ (pos 2, 6) ∷ (minus 1, 8) ∷ (pos 0, 11) ∷ []
 
 -- "run 4 10 1 5".
 abbrev pub example : Run

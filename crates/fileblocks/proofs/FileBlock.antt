@@ -5,14 +5,16 @@ use mathlib.Core.Logic.{_↔_}
 use mathlib.Core.Bool.{true, false, cond, false≢true}
 use mathlib.Core.List.{List, _++_, append-assoc, append-nil}
 use native.Mathlib.Omega.{arith}
-use lib.ListN.{length, take, drop, replicate, length-append, length-take, length-replicate, List·getD-append}
+use lib.ListN.{length, take, drop, length-append, length-take, List·getD-append}
 use native.Mathlib.Decide.{decLe, ℕ-discrete}
 use lib.Dec.{eqb}
 use borrow.Author.Tests.{eq-eqb, ne-eqb, eqb-true}
 use lib.Seq.{take-all, take-append-seam}
 use borrow.Rule.Slice.PartMut.{midOf, putMid, mid-len}
-use Rattle.fileblocks.specs.FileBlock.{fileBlockBytes, contentAt, contentBytes, checkAt, four, fourAt, weighted, checkOf, filled, sealed, fileBlockOf, sealedWith}
-use Rattle.fileblocks.proofs.Writing.{written-none, written-part, written-length, written-all}
+use Rattle.rooms.specs.Lists.{zeros}
+use Rattle.rooms.proofs.Lists.{length-zeros}
+use Rattle.fileblocks.specs.FileBlock.{fileBlockBytes, contentAt, contentBytes, checkAt, four, fourAt, weighted, checkOf, filled, fileBlockOf, sealedWith}
+use Rattle.fileblocks.proofs.Front.{front-none, front-part, front-length, front-all}
 
 pub length-four : (n : ℕ) → length (four n) ≡ 4
 unfolding four
@@ -20,35 +22,35 @@ length-four n = refl
 
 pub length-filled : (bytes : List ℕ) → length (filled bytes) ≡ contentBytes
 unfolding filled
-length-filled bytes = simp (length-append, length-take, length-replicate) (omega arith)
+length-filled bytes = simp (length-append, length-take, length-zeros) (omega arith)
 
 pub length-front : (k : ℕ) (bytes : List ℕ) → length (four k ++ filled bytes) ≡ checkAt
 length-front k bytes = simp (length-append, length-four, length-filled)
 
 pub length-fileBlockOf : (k : ℕ) (bytes : List ℕ) → length (fileBlockOf k bytes) ≡ fileBlockBytes
-unfolding fileBlockOf sealed
+unfolding fileBlockOf
 length-fileBlockOf k bytes = simp (length-append, length-four, length-filled)
 
 -- bytes that fit are all there, with the filling behind them
-pub filled-short : (bytes : List ℕ) → length bytes ≤ contentBytes → filled bytes ≡ bytes ++ replicate (contentBytes - length bytes) 0
+filled-short : (bytes : List ℕ) → length bytes ≤ contentBytes → filled bytes ≡ bytes ++ zeros (contentBytes - length bytes)
 unfolding filled
-filled-short bytes h = ap (λ l. l ++ replicate (contentBytes - length bytes) 0) (take-all contentBytes bytes h)
+filled-short bytes h = ap (λ l. l ++ zeros (contentBytes - length bytes)) (take-all contentBytes bytes h)
 
 -- and are taken out again
 pub take-filled : (bytes : List ℕ) → take (length bytes) (filled bytes) ≡ take contentBytes bytes
-unfolding filled
+unfolding filled zeros
 take-filled bytes = go (decLe (length bytes) contentBytes)
   where
     go : Dec (length bytes ≤ contentBytes) → take (length bytes) (filled bytes) ≡ take contentBytes bytes
     go (yes h) =
-        rw (take-all contentBytes bytes h) (take-append-seam bytes (replicate (contentBytes - length bytes) 0))
+        rw (take-all contentBytes bytes h) (take-append-seam bytes (zeros (contentBytes - length bytes)))
     go (no h) =
         let none : contentBytes - length bytes ≡ 0 = omega arith in
         let short : length (take contentBytes bytes) ≤ length bytes = simp length-take (omega arith) in
         rw (none, append-nil (take contentBytes bytes)) (take-all (length bytes) (take contentBytes bytes) short)
 
 -- bytes 508 and on do not count
-pub weighted-front : (front rest : List ℕ) (n : ℕ) → n ≤ length front → weighted (front ++ rest) n ≡ weighted front n
+weighted-front : (front rest : List ℕ) (n : ℕ) → n ≤ length front → weighted (front ++ rest) n ≡ weighted front n
 unfolding weighted
 weighted-front front rest zero h = refl
 weighted-front front rest (suc k) h =
@@ -63,30 +65,30 @@ check-front front rest e = ap (λ n. 1 + n) (weighted-front front rest checkAt (
 -- a block that is written part by part: its number, the bytes, the filling, and the check of what then stands there
 pub written-file-block : (number : ℕ) (bytes block : List ℕ) {a b c d : List ℕ} {sum : ℕ}
     → length bytes ≤ contentBytes → length block ≡ fileBlockBytes → a ≡ four number → b ≡ bytes
-    → c ≡ replicate (length (midOf (contentAt + length bytes) (checkAt - (contentAt + length bytes)) (putMid contentAt (contentAt + length bytes - contentAt) (putMid 0 4 block a) b))) 0
+    → c ≡ zeros (length (midOf (contentAt + length bytes) (checkAt - (contentAt + length bytes)) (putMid contentAt (contentAt + length bytes - contentAt) (putMid 0 4 block a) b)))
     → sum ≡ checkOf (putMid (contentAt + length bytes) (checkAt - (contentAt + length bytes)) (putMid contentAt (contentAt + length bytes - contentAt) (putMid 0 4 block a) b) c)
     → d ≡ four sum
     → putMid checkAt 4 (putMid (contentAt + length bytes) (checkAt - (contentAt + length bytes)) (putMid contentAt (contentAt + length bytes - contentAt) (putMid 0 4 block a) b) c) d ≡ fileBlockOf number bytes
-unfolding fileBlockOf sealed
+unfolding fileBlockOf
 written-file-block number bytes block {a} {b} {c} {d} {sum} short whole ea eb ec es ed =
     let end = contentAt + length bytes in
     let la : length a ≡ 4 = ap length ea ∙ length-four number in
     let lb : length b ≡ end - contentAt = ap length eb ∙ omega arith in
-    let w₁ = written-part contentAt a (written-none block) (omega arith) (omega arith) la in
-    let w₂ = written-part end b w₁ (omega arith) (omega arith) lb in
-    let l₂ = written-length w₂ in
+    let w₁ = front-part contentAt a (front-none block) (omega arith) (omega arith) la in
+    let w₂ = front-part end b w₁ (omega arith) (omega arith) lb in
+    let l₂ = front-length w₂ in
     let gap : end + (contentBytes - length bytes) ≡ checkAt = omega arith in
     let room : length (midOf end (checkAt - end) (putMid contentAt (end - contentAt) (putMid 0 4 block a) b)) ≡ contentBytes - length bytes = mid-len end checkAt _ (omega arith) ∙ omega arith in
-    let ec' : c ≡ replicate (contentBytes - length bytes) 0 = ec ∙ ap (λ n. replicate n 0) room in
-    let lc : length c ≡ checkAt - end = ap length ec' ∙ length-replicate (contentBytes - length bytes) 0 ∙ omega arith in
-    let w₃ = written-part checkAt c w₂ (omega arith) (omega arith) lc in
+    let ec' : c ≡ zeros (contentBytes - length bytes) = ec ∙ ap zeros room in
+    let lc : length c ≡ checkAt - end = ap length ec' ∙ length-zeros (contentBytes - length bytes) ∙ omega arith in
+    let w₃ = front-part checkAt c w₂ (omega arith) (omega arith) lc in
     let front : (a ++ b) ++ c ≡ four number ++ filled bytes =
     append-assoc a b c ∙ cc (filled-short bytes short) in
     let ld : length d ≡ 4 = ap length ed ∙ length-four sum in
-    let w₄ = written-part fileBlockBytes d w₃ (omega arith) (omega arith) ld in
+    let w₄ = front-part fileBlockBytes d w₃ (omega arith) (omega arith) ld in
     let check : sum ≡ checkOf (four number ++ filled bytes) =
     es ∙ ap checkOf (w₃ .is) ∙ check-front ((a ++ b) ++ c) (drop checkAt block) (w₃ .size) ∙ ap checkOf front in
-    written-all w₄ (omega arith) ∙ cc
+    front-all w₄ (omega arith) ∙ cc
 
 -- both the number and the check are right
 pub sealed-right : (k : ℕ) (block : List ℕ) → (sealedWith k block ≡ true) ↔ ((fourAt block 0 ≡ k) × (fourAt block checkAt ≡ checkOf block))

@@ -7,8 +7,9 @@ use native.Mathlib.Numerals.{add-one}
 use native.Mathlib.Omega.{arith}
 use borrow.Author.Tests.{ne-eqb, eqb-true}
 use lib.Dec.{eqb}
-use lib.ListN.{length, getD, drop, replicate, drop-of-length-le}
+use lib.ListN.{length, getD, drop, drop-of-length-le}
 use lib.Seq.{drop-cons}
+use Rattle.rooms.specs.Lists.{zeros}
 use Rattle.fileblocks.specs.FileBlock.{allZero}
 
 pub all-zero-end : (l : List ℕ) (i : ℕ) → length l ≤ i → allZero (drop i l) ≡ true
@@ -24,8 +25,8 @@ unfolding allZero
 all-zero-off l i h e = rw (drop-cons l i 0 h, ne-eqb (getD l i 0) 0 e)
 
 -- what comes behind some bytes and is filled up with zeros
-pub all-zero-behind : (n : ℕ) (l : List ℕ) (z : ℕ) → length l ≤ n → allZero (drop n (l ++ replicate z 0)) ≡ true
-unfolding allZero
+pub all-zero-behind : (n : ℕ) (l : List ℕ) (z : ℕ) → length l ≤ n → allZero (drop n (l ++ zeros z)) ≡ true
+unfolding allZero zeros
 all-zero-behind zero [] zero h = refl
 all-zero-behind zero [] (suc z) h = all-zero-behind zero [] z h
 all-zero-behind (suc n) [] zero h = refl
@@ -33,11 +34,11 @@ all-zero-behind (suc n) [] (suc z) h = all-zero-behind n [] z (omega arith)
 all-zero-behind zero (x ∷ l) z h = absurd (omega arith)
 all-zero-behind (suc n) (x ∷ l) z h = all-zero-behind n l z (omega arith)
 
-pub all-zero-replicate : (l : List ℕ) → allZero l ≡ true → l ≡ replicate (length l) 0
-unfolding allZero
-all-zero-replicate [] e = refl
-all-zero-replicate (x ∷ l) e = go (eqb x 0) refl e (all-zero-replicate l)
+pub all-zero-zeros : (l : List ℕ) → allZero l ≡ true → l ≡ zeros (length l)
+unfolding allZero zeros
+all-zero-zeros [] e = refl
+all-zero-zeros (x ∷ l) e = go (eqb x 0) refl e (all-zero-zeros l)
   where
-    go : (t : Bool) → eqb x 0 ≡ t → cond t (allZero l) false ≡ true → (allZero l ≡ true → l ≡ replicate (length l) 0) → x ∷ l ≡ replicate (length (x ∷ l)) 0
+    go : (t : Bool) → eqb x 0 ≡ t → cond t (allZero l) false ≡ true → (allZero l ≡ true → l ≡ zeros (length l)) → x ∷ l ≡ zeros (length (x ∷ l))
     go true i e ih = let z = eqb-true x 0 i in let r = ih e in λ j. z j ∷ r j
     go false i e ih = absurd (let z : _≡_ {A = ℕ} 0 1 = cc in omega arith)

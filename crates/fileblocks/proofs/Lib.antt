@@ -1,4 +1,4 @@
-pub mod Writing
+pub mod Front
 pub mod Number
 pub mod Filling
 pub mod FileBlock

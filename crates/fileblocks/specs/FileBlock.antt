@@ -3,8 +3,8 @@ use Prim.Native.Nat.{ℕ, zero, suc, _+_, _-_, _*_, _/_, _%_}
 use mathlib.Core.Bool.{Bool, true, false, not, cond}
 use mathlib.Core.List.{List, [], _∷_, _++_}
 use lib.Dec.{eqb}
-use lib.ListN.{length, getD, take, drop, replicate}
-use Rattle.scope.specs.Run.{UpTo}
+use lib.ListN.{length, getD, take, drop}
+use Rattle.rooms.specs.Lists.{UpTo, zeros}
 use Rattle.scope.specs.Refusal.{Tests, _when_, _andThen_, Check, Layout}
 
 -- "blocks of 512 bytes".
@@ -46,15 +46,11 @@ checkOf bytes = 1 + weighted bytes checkAt
 
 -- "in bytes 4-507 .. filled up with zeros": the first 504 of some bytes, or all of them and zeros.
 unfoldable pub filled : List ℕ → List ℕ
-filled bytes = take contentBytes bytes ++ replicate (contentBytes - length bytes) 0
+filled bytes = take contentBytes bytes ++ zeros (contentBytes - length bytes)
 
--- "Bytes 508-511: check": bytes 0-507 with their check behind them.
-unfoldable pub sealed : List ℕ → List ℕ
-sealed bytes = bytes ++ four (checkOf bytes)
-
--- "Bytes 0-3: block number": the block with number k that holds these bytes.
+-- "Bytes 0-3: block number .. Bytes 508-511: check": the block with number k that holds these bytes.
 unfoldable pub fileBlockOf : ℕ → List ℕ → List ℕ
-fileBlockOf k bytes = sealed (four k ++ filled bytes)
+fileBlockOf k bytes = let front = four k ++ filled bytes in front ++ four (checkOf front)
 
 -- "Bytes 4-507" of a block.
 unfoldable pub contents : List ℕ → List ℕ

@@ -3,7 +3,8 @@
 use scope::Verdict;
 ghost use mathlib.Core.Path.{_≡_};
 ghost use Prim.Native.Nat.{_+_, _*_, _≤_, _<_};
-ghost use lib.ListN.{length, drop, replicate};
+ghost use lib.ListN.{length, drop};
+ghost use Rattle.rooms.specs.Lists.{zeros};
 ghost use Rattle.scope.specs.Refusal.{complaint};
 ghost use Rattle.scope.specs.InnerVerdict.{verdict};
 ghost use Rattle.fileblocks.specs.FileBlock.{fileBlockBytes, contentBytes, checkAt, four, fourAt, checkOf, fileBlockOf, allZero, sealedWith, fileBlockTests};
@@ -24,8 +25,8 @@ fn wide(byte: u8) -> u32
     byte as u32
 }
 
-// Inner step. The check of a block: 1 and the sum of (k+1)·byte k for k = 0..507. Each term is at most 508·255, so that 32 bits hold the sum.
-pub fn check(block: &[u8]) -> u32
+// The check of a block: 1 and the sum of (k+1)·byte k for k = 0..507. Each term is at most 508·255, so that 32 bits hold the sum.
+fn check(block: &[u8]) -> u32
     requires { ⌜ checkAt ≤ length (now block) ⌝ }
     ensures { λ r. ⌜ r ≡ checkOf (now (block .entry)) ⌝ }
 {
@@ -40,7 +41,7 @@ pub fn check(block: &[u8]) -> u32
 
 // Makes every byte of a room zero.
 fn clear(room: &mut [u8])
-    ensures { λ _. ⌜ now (room .exit) ≡ replicate (length (now (room .entry))) 0 ⌝ }
+    ensures { λ _. ⌜ now (room .exit) ≡ zeros (length (now (room .entry))) ⌝ }
 {
     let mut i = 0;
     while i < room.len() {

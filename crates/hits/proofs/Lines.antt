@@ -137,10 +137,10 @@ module _ {run : Run} {source : Source} {start all period end : ℕ} {walk : Walk
       pub cell-in : cell < cellsOf run
       cell-in = rw (i .cell-is) (inside-cells (at .cell .0 / run .window) (fixed .valid) in′ (own-line (fixed .valid) (i .below)))
 
-      pub cell-hit : isHit run source cell ≡ true
+      cell-hit : isHit run source cell ≡ true
       cell-hit = rw (i .cell-is) (hit-point run source (at .cell .0 / run .window) in′ (i .on))
 
-      pub kept-here : Kept run source start before room n cell
+      kept-here : Kept run source start before room n cell
       kept-here = let same : at .cell .0 / run .window * run .window + min (i .e) (run .window) ≡ cell = omega (arith, i .cell-is) in rw same at (i .kept)
 
       -- the next offset, counted from the right edge

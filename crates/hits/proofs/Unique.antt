@@ -20,7 +20,7 @@ same-cell : (x y : RunCell) → x .0 ≡ y .0 → x ≡ y
 same-cell x y e = ap (λ (n : ℕ). record { 0 = n }) e
 
 -- a reply of the first-hit call is told by what it says
-pub says-first-hit-injective : (a b : FirstHit) → saysFirstHit a ≡ saysFirstHit b → a ≡ b
+says-first-hit-injective : (a b : FirstHit) → saysFirstHit a ≡ saysFirstHit b → a ≡ b
 says-first-hit-injective (At x) (At y) e = ap At (same-cell x y (cc))
 says-first-hit-injective (At x) Nothing e = apart (cc)
 says-first-hit-injective (At x) (Refused n) e = apart (cc)

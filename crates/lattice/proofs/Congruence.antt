@@ -39,11 +39,8 @@ cong-trans h k = record { up = h .up + k .up; down = h .down + k .down; same = o
 pub cong-add : {p a b c d : ℕ} → Cong p a b → Cong p c d → Cong p (a + c) (b + d)
 cong-add h k = record { up = h .up + k .up; down = h .down + k .down; same = omega arith }
 
-pub cong-mul : {p a b : ℕ} (k : ℕ) → Cong p a b → Cong p (k * a) (k * b)
+cong-mul : {p a b : ℕ} (k : ℕ) → Cong p a b → Cong p (k * a) (k * b)
 cong-mul k h = record { up = k * h .up; down = k * h .down; same = omega (arith, ap (λ x. k * x) (h .same)) }
-
-pub cong-times : {p a b c d : ℕ} → Cong p a b → Cong p c d → Cong p (a * c) (b * d)
-cong-times {p} {a} {b} {c} {d} g h = cong-trans (cong-mul a h) (cong-trans (cong-eq p (omega arith)) (cong-trans (cong-mul d g) (cong-eq p (omega arith))))
 
 pub cong-cancel : {p a b : ℕ} (c : ℕ) → Cong p (a + c) (b + c) → Cong p a b
 cong-cancel c h = record { up = h .up; down = h .down; same = omega arith }
@@ -51,10 +48,6 @@ cong-cancel c h = record { up = h .up; down = h .down; same = omega arith }
 -- a combination of two congruences, less the same number on both sides
 pub cong-mix : {p a b c d x y : ℕ} (k l z : ℕ) → Cong p a b → Cong p c d → x + z ≡ k * a + l * c → y + z ≡ k * b + l * d → Cong p x y
 cong-mix {p} {x = x} {y = y} k l z g h e₁ e₂ = cong-cancel z (cong-trans (cong-eq p e₁) (cong-trans (cong-add (cong-mul k g) (cong-mul l h)) (cong-eq p (sym e₂))))
-
--- whole periods do not matter
-pub cong-period : (p a k : ℕ) → Cong p (a + k * p) a
-cong-period p a k = record { up = 0; down = k; same = omega arith }
 
 -- one of two congruent numbers is the other and some periods
 pub cong-cases : {p a b : ℕ} → Cong p a b → ((k : ℕ) × (a ≡ b + k * p)) ⊎ ((k : ℕ) × (b ≡ a + suc k * p))

@@ -1,7 +1,7 @@
 -- The lattice L = {(e, y) : p divides e - r·y}, and the points of a coset: any two differ by a vector of L.
--- A place is a distance d ≥ 0 from the window's left edge; no line and no coset is special. Assumes nothing.
+-- A distance d ≥ 0 is one from the window's left edge; no line and no coset is special. Assumes nothing.
 use mathlib.Core.Path.{_≡_, ap}
-use mathlib.Core.Logic.{_↔_, Iff·trans}
+use mathlib.Core.Logic.{_↔_}
 use Prim.Native.Nat.{ℕ, _+_, _*_, _%_}
 use native.Mathlib.Omega.{arith}
 use Rattle.lattice.proofs.Congruence.{Cong, cong-eq, cong-sym, cong-trans, cong-mod}
@@ -40,7 +40,7 @@ go-on {p} {r} {d} {Y} {d₁} Z e h = (λ g. record { cong = cong-trans (g .cong)
 pub go-stay : (p r d : ℕ) → Go p r d 0 d
 go-stay p r d = record { cong = cong-eq p (omega arith) }
 
--- a vector of L is a way from every place that has room for it
+-- a vector of L is a way from every distance that has room for it
 pub go-left : {p r A β d e : ℕ} → Lft p r A β → d ≡ e + A → Go p r d β e
 go-left h at = record { cong = record { up = h .cong .down; down = h .cong .up; same = omega arith } }
 
@@ -56,7 +56,3 @@ go-mod p t d Y e = (λ g. record { cong = cong-trans (g .cong) (cong-sym equal) 
 
     equal : Cong p (d + t % p * Y) (d + t * Y)
     equal = record { up = m .up * Y; down = m .down * Y; same = omega (arith, ap (λ x. x * Y) (m .same)) }
-
--- so a walk needs r = t mod p alone
-pub on-go-mod : {p t κ d y : ℕ} (Y e : ℕ) → On p t κ d y → On p t κ e (y + Y) ↔ Go p (t % p) d Y e
-on-go-mod {p} {t} {d = d} Y e h = Iff·trans (on-go Y e h) (go-mod p t d Y e)

@@ -1,10 +1,8 @@
 -- The first point of a coset in a window of width W, seen from one of its points, and the next one after it.
 -- A way that passes over nothing, and the first point from where it ends, make the first point. Assumes nothing.
 use mathlib.Core.Path.{_≡_, subst}
-use mathlib.Core.Logic.{⊎-elim}
 use Prim.Native.Nat.{ℕ, _+_, _-_, _≤_, _<_}
 use native.Mathlib.Omega.{arith}
-use Rattle.lattice.proofs.Congruence.{split, cong-sym, cong-trans, cong-below}
 use Rattle.lattice.proofs.Differences.{Go, go-stay, go-on}
 
 -- from distance d, the first point at a distance below W is at e, Y lines on
@@ -37,30 +35,6 @@ module _ {p r W B d Y d₁ : ℕ} (low : W ≤ B) (jump : First p r B d Y d₁) 
       least X f l g =
           let past : Y ≤ X = jump .least X f (omega arith) g in
           omega (arith, h .least (X - Y) f l (rest-way (jump .way) past g))
-
-  -- where it ends within the window, it ends at the first point
-  pub first-lands : d₁ < W → First p r W d Y d₁
-  first-lands h = record { inside = h; way = jump .way; least = λ Z f l g. jump .least Z f (omega arith) g }
-
-  -- and where there is none from there on, there is none from d on
-  pub never-after : Never p r W d₁ → Never p r W d
-  never-after h = record { outside = λ X f g. ⊎-elim (λ l. h .outside (X - Y) f (rest-way (jump .way) (jump .least X f (omega arith) g) g)) (λ l. l) (split f W) }
-
--- a narrower window has no more points
-pub never-narrow : {p r W B d : ℕ} → W ≤ B → Never p r B d → Never p r W d
-never-narrow low h = record { outside = λ Z f g. omega (arith, h .outside Z f g) }
-
--- a point within the window is not met where there is none
-pub never-first : {p r W d Y e : ℕ} → Never p r W d → First p r W d Y e → ⊥
-never-first h f = omega (arith, h .outside _ _ (f .way), f .inside)
-
--- on a line of a window no wider than p there is at most one point
-pub go-one : {p r W d Y e f : ℕ} → W ≤ p → e < W → f < W → Go p r d Y e → Go p r d Y f → e ≡ f
-go-one h el fl g k = cong-below (cong-trans (g .cong) (cong-sym (k .cong))) (omega arith) (omega arith)
-
--- the first line is one
-pub first-unique : {p r W d Y e Y′ e′ : ℕ} → First p r W d Y e → First p r W d Y′ e′ → Y ≡ Y′
-first-unique h k = omega (arith, h .least _ _ (k .inside) (k .way), k .least _ _ (h .inside) (h .way))
 
 -- from distance d, the next point at a distance below W, on a later line, is at e, Y lines on
 pub record Next (p r W d Y e : ℕ) : Type 0 where

@@ -2,8 +2,8 @@
 -- Assumes nothing.
 use mathlib.Core.Path.{_≡_, sym, ap, subst}
 use mathlib.Core.Logic.{_↔_, inl, inr}
-use Prim.Native.Nat.{ℕ, _*_, _/_, _≤_, _<_, _∣_}
-use native.Mathlib.Nat.{dvd-mul-right, dvd-mul-left, dvd-add-iff-left, dvd-antisymm, le-of-dvd, mul-div-cancel', dvd-of-mul-dvd-mul-right, div-eq-of-eq-mul-right}
+use Prim.Native.Nat.{ℕ, _*_, _/_, _∣_}
+use native.Mathlib.Nat.{dvd-mul-right, dvd-mul-left, dvd-add-iff-left, dvd-antisymm, mul-div-cancel', dvd-of-mul-dvd-mul-right, div-eq-of-eq-mul-right}
 use native.Mathlib.Omega.{arith}
 pub use Rattle.lattice.specs.Gcd.{IsGcd}
 use Rattle.lattice.proofs.Congruence.{Cong, cong-refl, cong-sym, cong-mix, cong-eq, cong-trans}
@@ -17,17 +17,17 @@ pub gcd-unique : {g h a b : ℕ} → IsGcd g a b → IsGcd h a b → g ≡ h
 gcd-unique {g} {h} x y = dvd-antisymm (y .greatest g (x .divides-left) (x .divides-right)) (x .greatest h (y .divides-left) (y .divides-right))
 
 -- a congruence holds for every divisor of its modulus
-pub cong-divisor : {q p a b : ℕ} → q ∣ p → Cong p a b → Cong q a b
+cong-divisor : {q p a b : ℕ} → q ∣ p → Cong p a b → Cong q a b
 cong-divisor {q} {p} h g =
     let e : q * (p / q) ≡ p = mul-div-cancel' q h in
     record { up = g .up * (p / q); down = g .down * (p / q); same = omega (arith, g .same, ap (λ x. g .up * x) e, ap (λ x. g .down * x) e) }
 
 -- what is divisible is congruent to 0
-pub cong-of-dvd : {q a : ℕ} → q ∣ a → Cong q a 0
+cong-of-dvd : {q a : ℕ} → q ∣ a → Cong q a 0
 cong-of-dvd {q} {a} h = record { up = 0; down = a / q; same = omega (arith, mul-div-cancel' q h) }
 
 -- and the other way round
-pub dvd-of-cong : {q a : ℕ} → Cong q a 0 → q ∣ a
+dvd-of-cong : {q a : ℕ} → Cong q a 0 → q ∣ a
 dvd-of-cong {q} h = dvd-add-iff-left q (dvd-mul-left q (h .up)) .1 (subst (λ x. q ∣ x) (omega (arith, h .same)) (dvd-mul-left q (h .down)))
 
 -- a common divisor q of r and p divides the distance of every vector of L, and so every way of a coset
@@ -37,7 +37,7 @@ module _ (q : ℕ) {p r : ℕ} (hr : q ∣ r) (hp : q ∣ p) where
   dvd-left {β = β} l = dvd-of-cong (cong-mix 1 β (r * β) (cong-divisor hp (l .cong)) (cong-sym (cong-of-dvd hr)) (omega arith) (omega arith))
 
   -- a vector to the right
-  pub dvd-right : {C δ : ℕ} → Rgt p r C δ → q ∣ C
+  dvd-right : {C δ : ℕ} → Rgt p r C δ → q ∣ C
   dvd-right {δ = δ} l = dvd-of-cong (cong-mix 1 δ (r * δ) (cong-divisor hp (l .cong)) (cong-of-dvd hr) (omega arith) (omega arith))
 
   dvd-lies : (s : Side) {m : ℕ} (c : ℕ) → Lies s p r m c → q ∣ m
@@ -47,10 +47,6 @@ module _ (q : ℕ) {p r : ℕ} (hr : q ∣ r) (hp : q ∣ p) where
   -- the two ends of a way
   pub go-cong : {d Y e : ℕ} → Go p r d Y e → Cong q d e
   go-cong {Y = Y} g = cong-mix 1 Y (r * Y) (cong-sym (cong-divisor hp (g .cong))) (cong-sym (cong-of-dvd hr)) (omega arith) (omega arith)
-
--- as long as m is not 0 it is at least the greatest common divisor
-pub gcd-le : {g p r : ℕ} {s : Side} {n m b c : ℕ} → IsGcd g r p → Stage p r s n m b c → 0 < m → g ≤ m
-gcd-le {g} {s = s} {c = c} h st pos = le-of-dvd pos (dvd-lies g (h .divides-left) (h .divides-right) s c (st .last))
 
 -- where m is 0, n·c is p
 pub last-whole : {p r : ℕ} {s : Side} {n b c : ℕ} → Stage p r s n 0 b c → n * c ≡ p
@@ -75,7 +71,7 @@ last-gcd {p} {r} {s} {n} {b} {c} st = record {
   greatest = λ d hr hp. dvd-lies d hr hp (other s) b (st .before);
 }
 
--- there a way that keeps its place takes a multiple of c lines
+-- there a way that keeps its distance takes a multiple of c lines
 pub last-period : {p r : ℕ} {s : Side} {n b c : ℕ} (d Y : ℕ) → Stage p r s n 0 b c → Go p r d Y d ↔ (c ∣ Y)
 last-period {p} {r} {s} {n} {b} {c} d Y st = (to s st, from)
   where

@@ -1,4 +1,4 @@
--- The law of the walk: a way between two places less than A + C apart is a sum of steps (-A, β) and (C, δ).
+-- The law of the walk: a way between two distances less than A + C apart is a sum of steps (-A, β) and (C, δ).
 -- It asks of the two vectors only that they lie in L and span the area p, so that it serves every stage of the
 -- division sequence as well as the pair. Assumes nothing.
 use mathlib.Core.Path.{_≡_, refl, ap}
@@ -14,7 +14,7 @@ pub record Steps (A β C δ d Y e : ℕ) : Type 0 where
   pub lefts : ℕ
   pub rights : ℕ
   pub lines : Y ≡ lefts * β + rights * δ
-  pub place : e + lefts * A ≡ d + rights * C
+  pub distance : e + lefts * A ≡ d + rights * C
 
 -- p = A·δ + C·β: the two vectors span the whole lattice
 pub record Basis (p r A β C δ : ℕ) : Type 0 where
@@ -30,7 +30,7 @@ module _ (p A β C δ f Y k : ℕ) (some : 0 < p) (area : A * δ + C * β ≡ p)
     cancel some (omega (arith, ap (λ x. x * f) area, ap (λ x. x * A) whole, ap (λ x. x * C) e)),
   )
 
-  -- too few lines: then the two places lie A + C or more apart, or the way is none
+  -- too few lines: then the two distances lie A + C or more apart, or the way is none
   too-few : (l : ℕ) → (0 < δ) ⊎ (f < C) → f * β ≡ Y * A + suc l * p → ⊥
   too-few l side e = go k refl side
     where
@@ -52,7 +52,7 @@ core {p} {A} {β} {C} {δ} {f} {Y} some area whole cross near side = go (cong-ca
     go : ((k : ℕ) × (Y * C + f * δ ≡ 0 + k * p)) ⊎ ((k : ℕ) × (0 ≡ Y * C + f * δ + suc k * p)) → ((l : ℕ) × (Y * A ≡ f * β + l * p)) ⊎ ((l : ℕ) × (f * β ≡ Y * A + suc l * p)) → Steps A β C δ f Y 0
     go (inl (k, w)) (inl (l, e)) =
         let got = enough p A β C δ f Y k some area (omega arith) near l e in
-        record { lefts = k; rights = l; lines = got .0; place = omega arith }
+        record { lefts = k; rights = l; lines = got .0; distance = omega arith }
     go (inl (k, w)) (inr (l, e)) = absurd (too-few p A β C δ f Y k some area (omega arith) near l side e)
     go (inr (k, w)) (inl _) = absurd (omega arith)
     go (inr (k, w)) (inr _) = absurd (omega arith)
@@ -60,7 +60,7 @@ core {p} {A} {β} {C} {δ} {f} {Y} some area whole cross near side = go (cong-ca
 module _ {p r A β C δ d Y e : ℕ} (some : 0 < p) (basis : Basis p r A β C δ) (way : Go p r d Y e) where
   open Basis basis using (lies-left, lies-right, area)
 
-  -- (L) the way goes left, or keeps its place
+  -- (L) the way goes left, or keeps its distance
   pub law-left : e ≤ d → d < e + (A + C) → (0 < δ) ⊎ (d < e + C) → Steps A β C δ d Y e
   law-left le near side = go (d - e) (omega arith)
     where
@@ -70,9 +70,9 @@ module _ {p r A β C δ d Y e : ℕ} (some : 0 < p) (basis : Basis p r A β C δ
           let whole : Cong p (Y * C + f * δ) 0 = cong-mix Y δ (r * Y * δ) (lies-right .cong) home (omega arith) (omega arith) in
           let cross : Cong p (Y * A) (f * β) = cong-mix Y β (r * Y * β) (lies-left .cong) (cong-sym home) (omega arith) (omega arith) in
           let got : Steps A β C δ f Y 0 = core some area whole cross (omega arith) (⊎-map (λ x. x) (λ x. omega arith) side) in
-          record { lefts = got .lefts; rights = got .rights; lines = got .lines; place = omega arith }
+          record { lefts = got .lefts; rights = got .rights; lines = got .lines; distance = omega arith }
 
-  -- (R) the way goes right, or keeps its place
+  -- (R) the way goes right, or keeps its distance
   pub law-right : d ≤ e → e < d + (A + C) → (0 < β) ⊎ (e < d + A) → Steps A β C δ d Y e
   law-right le near side = go (e - d) (omega arith)
     where
@@ -82,4 +82,4 @@ module _ {p r A β C δ d Y e : ℕ} (some : 0 < p) (basis : Basis p r A β C δ
           let whole : Cong p (Y * A + f * β) 0 = cong-mix Y β (r * Y * β) (lies-left .cong) away (omega arith) (omega arith) in
           let cross : Cong p (Y * C) (f * δ) = cong-mix Y δ (r * Y * δ) (lies-right .cong) (cong-sym away) (omega arith) (omega arith) in
           let got : Steps C δ A β f Y 0 = core some (omega arith) whole cross (omega arith) (⊎-map (λ x. x) (λ x. omega arith) side) in
-          record { lefts = got .rights; rights = got .lefts; lines = omega arith; place = omega arith }
+          record { lefts = got .rights; rights = got .lefts; lines = omega arith; distance = omega arith }

@@ -11,5 +11,4 @@ pub mod Unique
 pub mod First
 pub mod Next
 pub mod Transitions
-pub mod Lines
 pub mod Row

@@ -1,11 +1,11 @@
 -- 002's proposition 2, for any coset: where the next point of a coset lies, within the window of a pair or of a single
 -- vector. Just one of three cases applies. Assumes nothing.
 use mathlib.Core.Path.{_≡_, sym, _∙_, subst, ap}
-use mathlib.Core.Logic.{_↔_, _⊎_, inl, inr, ⊎-elim, Iff·trans}
+use mathlib.Core.Logic.{_↔_, Iff·trans}
 use Prim.Native.Nat.{ℕ, zero, suc, _+_, _*_, _%_, _≤_, _<_, _∣_}
 use native.Mathlib.Nat.{mod-lt, dvd-mod-iff, le-of-dvd, dvd-refl}
 use native.Mathlib.Omega.{arith}
-use Rattle.lattice.proofs.Congruence.{split, cong-below}
+use Rattle.lattice.proofs.Congruence.{cong-below}
 use Rattle.lattice.proofs.Multiples.{cancel}
 use Rattle.lattice.proofs.Differences.{Go, go-left, go-right, go-on, go-mod}
 use Rattle.lattice.proofs.Law.{Steps}
@@ -15,31 +15,23 @@ use Rattle.lattice.proofs.Pair.{Pair, Reached, reach}
 use Rattle.lattice.proofs.Unique.{pair-steps}
 use Rattle.lattice.proofs.First.{Next}
 
--- room for (-A, β), room for (C, δ), or room for neither
-pub cases : (A C W d : ℕ) → (A ≤ d) ⊎ ((d + C < W) ⊎ ((d < A) × (W ≤ d + C)))
-cases A C W d = ⊎-elim (λ l. inr (⊎-elim (λ h. inl h) (λ h. inr (l, h)) (split (d + C) W))) (λ h. inl h) (split d A)
-
--- the first two exclude each other, and the third excludes both
-pub cases-apart : {A W d : ℕ} (C : ℕ) → W ≤ A + C → A ≤ d → d + C < W → ⊥
-cases-apart C h l k = omega arith
-
 -- a way to a later line: where (C, δ) alone leads out of the window, a step (-A, β) is in it
 lefts-some : {A β C δ d Y e : ℕ} → (w : Steps A β C δ d Y e) → 1 ≤ Y → e < d + C → β ≤ w .lefts * β
-lefts-some {A} {β} {C} {δ} {d} {Y} {e} w some out = go (w .lefts) (w .rights) (w .lines) (w .place)
+lefts-some {A} {β} {C} {δ} {d} {Y} {e} w some out = go (w .lefts) (w .rights) (w .lines) (w .distance)
   where
     go : (k l : ℕ) → Y ≡ k * β + l * δ → e + k * A ≡ d + l * C → β ≤ k * β
-    go zero zero lines place = absurd (omega arith)
-    go zero (suc l) lines place = absurd (omega arith)
-    go (suc k) l lines place = omega arith
+    go zero zero lines distance = absurd (omega arith)
+    go zero (suc l) lines distance = absurd (omega arith)
+    go (suc k) l lines distance = omega arith
 
 -- where (-A, β) alone does, a step (C, δ) is
 rights-some : {A β C δ d Y e : ℕ} → (w : Steps A β C δ d Y e) → 1 ≤ Y → d < A → δ ≤ w .rights * δ
-rights-some {A} {β} {C} {δ} {d} {Y} {e} w some out = go (w .lefts) (w .rights) (w .lines) (w .place)
+rights-some {A} {β} {C} {δ} {d} {Y} {e} w some out = go (w .lefts) (w .rights) (w .lines) (w .distance)
   where
     go : (k l : ℕ) → Y ≡ k * β + l * δ → e + k * A ≡ d + l * C → δ ≤ l * δ
-    go zero zero lines place = absurd (omega arith)
-    go (suc k) zero lines place = absurd (omega arith)
-    go k (suc l) lines place = omega arith
+    go zero zero lines distance = absurd (omega arith)
+    go (suc k) zero lines distance = absurd (omega arith)
+    go k (suc l) lines distance = omega arith
 
 module _ {p r W A β C δ : ℕ} (pair : Pair p r W A β C δ) where
   -- (i) d ≥ A: the next point is one step (-A, β) on
@@ -92,7 +84,7 @@ gcd-mod {g} {p} {r} h = record {
   greatest = λ d hr hp. h .greatest d (dvd-mod-iff d hp .0 hr) hp;
 }
 
--- with g·c = p, g the greatest common divisor, a way that keeps its place takes a multiple of c lines
+-- with g·c = p, g the greatest common divisor, a way that keeps its distance takes a multiple of c lines
 pub period : {g p r : ℕ} (c d Y : ℕ) → 0 < p → IsGcd g r p → g * c ≡ p → Go p r d Y d ↔ (c ∣ Y)
 period {g} {p} {r} c d Y pos gcd whole = Iff·trans (go-mod p r d Y d) (go (reach (mod-lt r pos) (omega arith) pos))
   where
@@ -106,8 +98,8 @@ period {g} {p} {r} c d Y pos gcd whole = Iff·trans (go-mod p r d Y d) (go (reac
         same = cancel {p = h .n} (omega (arith, h .above)) (last-whole end ∙ sym whole ∙ ap (λ x. x * c) (gcd-unique (gcd-mod gcd) (last-gcd end)))
 
 -- a window no wider than g has its points at one distance
-pub single-place : {g p r W d Y e : ℕ} → IsGcd g r p → W ≤ g → d < W → e < W → Go p r d Y e → e ≡ d
-single-place {g} gcd narrow dl el w = sym (cong-below (go-cong g (gcd .divides-left) (gcd .divides-right) w) (omega arith) (omega arith))
+pub single-distance : {g p r W d Y e : ℕ} → IsGcd g r p → W ≤ g → d < W → e < W → Go p r d Y e → e ≡ d
+single-distance {g} gcd narrow dl el w = sym (cong-below (go-cong g (gcd .divides-left) (gcd .divides-right) w) (omega arith) (omega arith))
 
 -- and the next point is c = p / g lines on
 pub next-single : {g p r W c d : ℕ} → 0 < p → IsGcd g r p → g * c ≡ p → W ≤ g → d < W → Next p r W d c d
@@ -123,4 +115,4 @@ next-single {g} {p} {r} {W} {c} {d} pos gcd whole narrow d<W = record {
     some (suc i) e = omega arith
 
     least : (Z f : ℕ) → 1 ≤ Z → f < W → Go p r d Z f → c ≤ Z
-    least Z f z inside w = le-of-dvd z (period c d Z pos gcd whole .0 (subst (λ x. Go p r d Z x) (single-place gcd narrow d<W inside w) w))
+    least Z f z inside w = le-of-dvd z (period c d Z pos gcd whole .0 (subst (λ x. Go p r d Z x) (single-distance gcd narrow d<W inside w) w))

@@ -1,11 +1,11 @@
--- The points of a coset on one line, for every period: they lie p apart, and the first at or right of a place is a
+-- The points of a coset on one line, for every period: they lie p apart, and the first at or right of a distance is a
 -- remainder away. Nothing here needs a window no wider than the period. Assumes nothing.
 use mathlib.Core.Path.{_≡_}
 use mathlib.Core.Logic.{⊎-elim}
 use Prim.Native.Nat.{ℕ, zero, suc, _+_, _-_, _*_, _/_, _%_, _≤_, _<_}
 use native.Mathlib.Nat.{mod-lt, div-add-mod'}
 use native.Mathlib.Omega.{arith}
-use Rattle.lattice.proofs.Congruence.{Cong, cong-sym, cong-trans, cong-add, cong-refl, cong-cases, cong-least, cong-below, cong-mod}
+use Rattle.lattice.proofs.Congruence.{Cong, cong-sym, cong-trans, cong-add, cong-refl, cong-cases, cong-least, cong-mod}
 use Rattle.lattice.proofs.Differences.{On}
 
 -- the first point on line y at a distance d₀ or more is at e
@@ -51,7 +51,3 @@ leftmost-next {p} {t} {κ} {y} {d} pos h = record {
 
     least : (f : ℕ) → d + 1 ≤ f → On p t κ f y → d + p ≤ f
     least f l o = ⊎-elim (λ x. go f (x .0) (omega arith) (x .1)) (λ x. absurd (omega (arith, x .1))) (cong-cases (cong-trans (o .cong) (cong-sym (h .cong))))
-
--- a line of a window no wider than p has at most one point
-pub on-one : {p t κ y W d e : ℕ} → W ≤ p → d < W → e < W → On p t κ d y → On p t κ e y → d ≡ e
-on-one h dl el o o′ = cong-below (cong-trans (o .cong) (cong-sym (o′ .cong))) (omega arith) (omega arith)

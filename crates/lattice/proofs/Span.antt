@@ -14,16 +14,16 @@ pub record Combined (A β C δ d Y e Y′ : ℕ) : Type 0 where
   pub l : ℕ
   pub l′ : ℕ
   pub lines : Y + k′ * β + l′ * δ ≡ Y′ + k * β + l * δ
-  pub place : e + k * A + l′ * C ≡ d + k′ * A + l * C
+  pub distance : e + k * A + l′ * C ≡ d + k′ * A + l * C
 
 -- The two equations for k - k′ and l - l′, (whole) and (cross), have the determinant A·δ + C·β.
--- (whole) times β and (cross) times δ give the lines, (whole) times A less (cross) times C the place.
+-- (whole) times β and (cross) times δ give the lines, (whole) times A less (cross) times C the distance.
 module _ (p A β C δ d Y e Y′ k k′ l l′ : ℕ) (area : A * δ + C * β ≡ p) (whole : Y * C + d * δ + k′ * p ≡ Y′ * C + e * δ + k * p) (cross : Y * A + e * β + l′ * p ≡ Y′ * A + d * β + l * p) where
   lines-times : Y * p + k′ * p * β + l′ * p * δ ≡ Y′ * p + k * p * β + l * p * δ
   lines-times = subst (λ x. Y * x + k′ * p * β + l′ * p * δ ≡ Y′ * x + k * p * β + l * p * δ) area (omega (arith, ap (λ x. x * β) whole, ap (λ x. x * δ) cross))
 
-  place-times : d * p + k′ * p * A + l * p * C ≡ e * p + k * p * A + l′ * p * C
-  place-times = subst (λ x. d * x + k′ * p * A + l * p * C ≡ e * x + k * p * A + l′ * p * C) area (omega (arith, ap (λ x. x * A) whole, ap (λ x. x * C) cross))
+  distance-times : d * p + k′ * p * A + l * p * C ≡ e * p + k * p * A + l′ * p * C
+  distance-times = subst (λ x. d * x + k′ * p * A + l * p * C ≡ e * x + k * p * A + l′ * p * C) area (omega (arith, ap (λ x. x * A) whole, ap (λ x. x * C) cross))
 
 solved : {p A β C δ d Y e Y′ : ℕ} → 0 < p → A * δ + C * β ≡ p → Cong p (Y * C + d * δ) (Y′ * C + e * δ) → Cong p (Y * A + e * β) (Y′ * A + d * β) → Combined A β C δ d Y e Y′
 solved {p} {A} {β} {C} {δ} {d} {Y} {e} {Y′} pos area whole cross = record {
@@ -32,7 +32,7 @@ solved {p} {A} {β} {C} {δ} {d} {Y} {e} {Y′} pos area whole cross = record {
   l = cross .down;
   l′ = cross .up;
   lines = cancel pos (omega (arith, lines-times p A β C δ d Y e Y′ (whole .down) (whole .up) (cross .down) (cross .up) area (whole .same) (cross .same)));
-  place = cancel pos (omega (arith, place-times p A β C δ d Y e Y′ (whole .down) (whole .up) (cross .down) (cross .up) area (whole .same) (cross .same)));
+  distance = cancel pos (omega (arith, distance-times p A β C δ d Y e Y′ (whole .down) (whole .up) (cross .down) (cross .up) area (whole .same) (cross .same)));
 }
 
 -- every point of L is a whole combination of the two vectors

@@ -48,12 +48,12 @@ pub ended : {p r : ℕ} {s : Side} {n m b c : ℕ} → Stage p r s n m b c → m
 ended {p} {r} {s} {n} {m} {b} {c} st e = subst (λ x. Stage p r s n x b c) e st
 
 -- u + a·v lies in L, on u's side, k being what is left of n
-pub slide : {p r : ℕ} {s : Side} {n m b c : ℕ} (a k : ℕ) → Stage p r s n m b c → n ≡ a * m + k → Lies (other s) p r k (b + a * c)
+slide : {p r : ℕ} {s : Side} {n m b c : ℕ} (a k : ℕ) → Stage p r s n m b c → n ≡ a * m + k → Lies (other s) p r k (b + a * c)
 slide {s = left} {m = m} a k st e = record { cong = cong-mix 1 a (a * m) (st .before .cong) (cong-sym (st .last .cong)) (omega arith) (omega arith) }
 slide {s = right} {m = m} a k st e = record { cong = cong-mix 1 a (a * m) (st .before .cong) (cong-sym (st .last .cong)) (omega arith) (omega arith) }
 
 -- u + a·v and v span the same area as u and v
-pub slide-area : {p r : ℕ} {s : Side} {n m b c : ℕ} (a k : ℕ) → Stage p r s n m b c → n ≡ a * m + k → k * c + m * (b + a * c) ≡ p
+slide-area : {p r : ℕ} {s : Side} {n m b c : ℕ} (a k : ℕ) → Stage p r s n m b c → n ≡ a * m + k → k * c + m * (b + a * c) ≡ p
 slide-area {c = c} a k st e = omega (arith, st .area, ap (λ x. x * c) e)
 
 -- the next vector is u + a·v, a being the quotient of n and m

@@ -4,7 +4,7 @@
 use mathlib.Core.Path.{_≡_}
 use mathlib.Core.Logic.{inl, inr}
 use Prim.Native.Nat.{ℕ, zero, suc, _+_, _-_, _*_, _≤_, _<_}
-use native.Mathlib.Nat.{mul-le-mul-left, mul-le-mul-right, lt-of-mul-lt-mul-right}
+use native.Mathlib.Nat.{mul-le-mul-left, mul-le-mul-right}
 use native.Mathlib.Omega.{arith}
 use Rattle.lattice.proofs.Congruence.{cong-refl, cong-sym, cong-mix, cong-least}
 use Rattle.lattice.proofs.Multiples.{Above}
@@ -29,14 +29,14 @@ jump-right {p} {r} {n} {m} {b} {c} {d} {t} {e} st m≤d d<n turn at =
     way = record { cong = cong-mix 1 t (n - d) (cong-sym (st .before .cong)) (st .last .cong) (omega arith) (omega arith) }
 
     least : (Z f : ℕ) → f < d → Go p r d Z f → t * c + b ≤ Z
-    least Z f near g = count (w .lefts) (w .rights) (w .lines) (w .place)
+    least Z f near g = count (w .lefts) (w .rights) (w .lines) (w .distance)
       where
         w : Steps n b m c d Z f
         w = law-left (bounds st .positive) (spans st) g (omega arith) (omega arith) (inl (st .some))
 
         count : (k l : ℕ) → Z ≡ k * b + l * c → f + k * n ≡ d + l * m → t * c + b ≤ Z
-        count zero l lines place = absurd (omega arith)
-        count (suc k) l lines place =
+        count zero l lines distance = absurd (omega arith)
+        count (suc k) l lines distance =
             let past : t ≤ l = turn .least l (omega arith) in
             omega (arith, mul-le-mul-right c past)
 
@@ -77,21 +77,4 @@ moved {n = n} {m} {b} {c} {t} st m>0 h =
     let turns : t ≤ t * m = omega (arith, mul-le-mul-left t m>0) in
     let whole : t * m * c + c ≤ n * c = omega (arith, mul-le-mul-right c h) in
     let lines : t * c + b ≤ (t * c + b) * m = omega (arith, mul-le-mul-left (t * c + b) m>0) in
-    omega arith
-
--- t is at most the quotient a of n and m
-pub turn-le : {n m t : ℕ} (a k : ℕ) → n ≡ a * m + k → k < m → t * m < n → t ≤ a
-turn-le {m = m} {t} a k e l h = omega (arith, lt-of-mul-lt-mul-right m {m = t} {n = a + 1} (omega arith))
-
--- the lines gone so far stay below twice the lines of u and v, from a stage to the next
-pub carry : {p r : ℕ} {s : Side} {n m b c a t Y : ℕ} → Stage p r s n m b c → 1 ≤ a → t ≤ a → Y ≤ 2 * (b + c) → Y + (t * c + b) ≤ 2 * (c + (b + a * c))
-carry {b = b} {c} st some few h =
-    let rises = st .rises in
-    omega (arith, mul-le-mul-right c some, mul-le-mul-right c few)
-
--- and so never exceed 4·p
-pub carried : {p r : ℕ} {s : Side} {n m b c Y : ℕ} → Stage p r s n m b c → Y ≤ 2 * (b + c) → Y ≤ 4 * p
-carried st h =
-    let o = bounds st in
-    let rises = st .rises in
     omega arith

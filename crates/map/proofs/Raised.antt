@@ -1,5 +1,5 @@
 -- Laws of sums that stop at a ceiling, over any ceiling: stopping in between changes nothing, and a list of cells may be
--- raised part by part. `RaisedBelow` is what a loop over cell numbers keeps. Assumes nothing.
+-- raised part by part. `RaisedIn`, and `RaisedBelow` from cell 0 on, is what a loop over cell numbers keeps. Assumes nothing.
 use Prim.Native.Nat.{ℕ, zero, suc, _+_, _-_, _≤_, _<_}
 use native.Mathlib.Nat.{add-zero, add-suc, zero-add, suc-add}
 use native.Mathlib.Omega.{arith}
@@ -11,6 +11,7 @@ use lib.Seq.{ext-getD, getD-set-same, getD-set-other, getD-take, getD-drop, getD
 use borrow.Rule.Slice.PartMut.{putMid, same-len-mid}
 use Rattle.scope.specs.Run.{UpTo}
 use Rattle.map.specs.Sum.{capped, raised}
+use Rattle.map.specs.Inner.{RaisedIn}
 
 -- a sum stopped in between
 pub capped-again : (c a b : ℕ) → capped c (capped c a + b) ≡ capped c (a + b)
@@ -64,13 +65,12 @@ raised-append c gain x [] b = rw add-zero
 raised-append c gain x (v ∷ a) b = rw (raised-append c gain (suc x) a b, suc-add, add-suc)
 
 -- the cells below x are raised, those from x on are as they were
-pub record RaisedBelow (c : ℕ) (gain : ℕ → ℕ) (old : List ℕ) (x : ℕ) (cells : List ℕ) : Type 0 where
-  pub as-long : length cells ≡ length old
-  pub below : (i : ℕ) → i < x → i < length old → getD cells i 0 ≡ capped c (getD old i 0 + gain i)
-  pub above : (i : ℕ) → x ≤ i → getD cells i 0 ≡ getD old i 0
+abbrev pub RaisedBelow : ℕ → (ℕ → ℕ) → List ℕ → ℕ → List ℕ → Type 0
+RaisedBelow c gain old x cells = RaisedIn c gain old 0 x cells
 
-pub starts : (c : ℕ) (gain : ℕ → ℕ) (old : List ℕ) → RaisedBelow c gain old 0 old
-starts c gain old = record { as-long = refl; below = λ i h. absurd (omega arith); above = λ i h. refl }
+-- at first none is raised
+pub starts : (c : ℕ) (gain : ℕ → ℕ) (old : List ℕ) (x : ℕ) → RaisedIn c gain old x x old
+starts c gain old x = record { as-long = refl; below = λ i h. refl; within = λ i h k. absurd (omega arith); above = λ i h. refl }
 
 -- ---- a part of a list, put back changed: the cells before it, in it and after it
 
@@ -93,36 +93,34 @@ module _ (cells part : List ℕ) (a k : ℕ) (fits : a + k ≤ length cells) (as
       (rw (front, as-many) at here) ∙ getD-drop k (drop a cells) i 0 ∙ getD-drop a cells (k + i) 0
 
 -- the order of two numbers, decided
-split : (a b : ℕ) → (a < b) ⊎ (b ≤ a)
+pub split : (a b : ℕ) → (a < b) ⊎ (b ≤ a)
 split a zero = inr (omega arith)
 split zero (suc b) = inl (omega arith)
 split (suc a) (suc b) = ⊎-elim (λ h. inl (omega arith)) (λ h. inr (omega arith)) (split a b)
 
-module _ {c : ℕ} {gain : ℕ → ℕ} {old : List ℕ} {x : ℕ} {cells : List ℕ} (so-far : RaisedBelow c gain old x cells) where
+module _ {c : ℕ} {gain : ℕ → ℕ} {old : List ℕ} {from x : ℕ} {cells : List ℕ} (so-far : RaisedIn c gain old from x cells) where
   -- cells that gain nothing are passed over
-  pub over : {y : ℕ} → UpTo c old → x ≤ y → ((i : ℕ) → x ≤ i → i < y → gain i ≡ 0) → RaisedBelow c gain old y cells
+  pub over : {y : ℕ} → UpTo c old → x ≤ y → ((i : ℕ) → x ≤ i → i < y → gain i ≡ 0) → RaisedIn c gain old from y cells
   over {y} small h none =
       record {
         as-long = so-far .as-long;
-        below = λ i below-y inside. ⊎-elim
-            (λ below-x. so-far .below i below-x inside)
+        below = so-far .below;
+        within = λ i from-here below-y inside. ⊎-elim
+            (λ below-x. so-far .within i from-here below-x inside)
             (λ from-x. so-far .above i from-x ∙ sym (ap (λ n. capped c (getD old i 0 + n)) (none i from-x below-y) ∙ ap (capped c) (add-zero _) ∙ capped-below c (small i)))
             (split i x);
         above = λ i k. so-far .above i (omega arith);
       }
 
-  -- past the last cell every number will do
-  pub past : {y : ℕ} → length old ≤ x → x ≤ y → RaisedBelow c gain old y cells
-  past h k = record { as-long = so-far .as-long; below = λ i below-y inside. so-far .below i (omega arith) inside; above = λ i from-y. so-far .above i (omega arith) }
-
   -- the cell x is raised
-  pub store : {v : ℕ} → x < length old → v ≡ capped c (getD cells x 0 + gain x) → RaisedBelow c gain old (suc x) (set cells x v)
-  store {v} inside e =
+  pub store : {v : ℕ} → from ≤ x → x < length old → v ≡ capped c (getD cells x 0 + gain x) → RaisedIn c gain old from (suc x) (set cells x v)
+  store {v} begun inside e =
       let l = so-far .as-long in
       record {
         as-long = length-set cells x v ∙ so-far .as-long;
-        below = λ i below-y within. ⊎-elim
-            (λ below-x. getD-set-other cells x i v 0 (λ z. omega arith) ∙ so-far .below i below-x within)
+        below = λ i k. getD-set-other cells x i v 0 (λ z. omega arith) ∙ so-far .below i k;
+        within = λ i from-here below-y within. ⊎-elim
+            (λ below-x. getD-set-other cells x i v 0 (λ z. omega arith) ∙ so-far .within i from-here below-x within)
             (λ from-x.
             let z : i ≡ x = omega arith in
             rw z (getD-set-same cells x v 0 (omega arith) ∙ e ∙ ap (λ n. capped c (n + gain x)) (so-far .above x (omega arith))))
@@ -130,12 +128,27 @@ module _ {c : ℕ} {gain : ℕ → ℕ} {old : List ℕ} {x : ℕ} {cells : List
         above = λ i k. getD-set-other cells x i v 0 (λ z. omega arith) ∙ so-far .above i (omega arith);
       }
 
+  -- the cells from x on are raised after those below it
+  pub joined : {y : ℕ} {more : List ℕ} → from ≤ x → x ≤ y → RaisedIn c gain cells x y more → RaisedIn c gain old from y more
+  joined {y} {more} begun h then =
+      let l = so-far .as-long in
+      record {
+        as-long = then .as-long ∙ so-far .as-long;
+        below = λ i k. then .below i (omega arith) ∙ so-far .below i k;
+        within = λ i from-here below-y inside. ⊎-elim
+            (λ below-x. then .below i below-x ∙ so-far .within i from-here below-x inside)
+            (λ from-x. then .within i from-x below-y (omega arith) ∙ ap (λ n. capped c (n + gain i)) (so-far .above i from-x))
+            (split i x);
+        above = λ i k. then .above i k ∙ so-far .above i (omega arith);
+      }
+
+module _ {c : ℕ} {gain : ℕ → ℕ} {old : List ℕ} {x : ℕ} {cells : List ℕ} (so-far : RaisedBelow c gain old x cells) where
   -- past the last cell all is done
   pub ends : length old ≤ x → cells ≡ raised c gain 0 old
   ends h =
       let l = so-far .as-long in
       let k = raised-length c gain 0 old in
-      ext-getD 0 cells (raised c gain 0 old) (omega arith) λ i inside. so-far .below i (omega arith) (omega arith) ∙ sym (raised-getD c gain 0 old i (omega arith) ∙ ap (λ n. capped c (getD old i 0 + gain n)) (zero-add i))
+      ext-getD 0 cells (raised c gain 0 old) (omega arith) λ i inside. so-far .within i (omega arith) (omega arith) (omega arith) ∙ sym (raised-getD c gain 0 old i (omega arith) ∙ ap (λ n. capped c (getD old i 0 + gain n)) (zero-add i))
 
   -- a part from x to y is raised by itself
   pub patch : {part : List ℕ} (own : ℕ → ℕ) {k y : ℕ} → x + k ≡ y → y ≤ length old → part ≡ raised c own 0 (take k (drop x cells)) → ((i : ℕ) → i < k → own i ≡ gain (i + x)) → RaisedBelow c gain old y (putMid x k cells part)
@@ -154,8 +167,9 @@ module _ {c : ℕ} {gain : ℕ → ℕ} {old : List ℕ} {x : ℕ} {cells : List
       (ap own (zero-add j) ∙ same j h ∙ ap gain (omega arith)) in
       record {
         as-long = same-len-mid x k cells part (long ∙ sym mid) ∙ so-far .as-long;
-        below = λ i h within. ⊎-elim
-            (λ before. put-before cells part x k room long i before ∙ so-far .below i before within)
+        below = λ i h. absurd (omega arith);
+        within = λ i low h inside-old. ⊎-elim
+            (λ before. put-before cells part x k room long i before ∙ so-far .within i low before inside-old)
             (λ from.
             let z : i ≡ x + (i - x) = omega arith in
             subst (λ n. getD (putMid x k cells part) n 0 ≡ capped c (getD old n 0 + gain n)) (sym z) (inside (i - x) (omega arith)))

@@ -15,7 +15,7 @@ use Rattle.map.specs.Sum.{capped, raised}
 use Rattle.map.specs.Inner.{spaced}
 use Rattle.scope.specs.declared.Run.{Run}
 use Rattle.scope.specs.declared.Source.{Source}
-use Rattle.scope.specs.Run.{ceiling, UpTo, lineOf}
+use Rattle.scope.specs.Run.{UpTo, lineOf}
 use Rattle.scope.specs.Hit.{isHit}
 use Rattle.scope.proofs.Hits.{origin, On, hit-on, miss-on, hit-or-miss}
 use Rattle.map.specs.Promise.{weightAt}
@@ -40,26 +40,26 @@ between p s d i e low high f = go (decLt (d / p) (i / p))
         omega (arith, div-add-mod' d p, div-add-mod' i p, mul-le-mul-right p k)
 
 -- a line of which the cells below d are done, d being the next hit
-pub record Line (period start weight : ℕ) (old : List ℕ) (d : ℕ) (line : List ℕ) : Type 0 where
+pub record Line (c period start weight : ℕ) (old : List ℕ) (d : ℕ) (line : List ℕ) : Type 0 where
   pub within : start < period
-  pub small : UpTo ceiling old
+  pub small : UpTo c old
   pub hit : d % period ≡ start
-  pub done : RaisedBelow ceiling (spaced period start weight) old d line
+  pub done : RaisedBelow c (spaced period start weight) old d line
 
-pub line-starts : {period start : ℕ} (weight : ℕ) {old : List ℕ} → start < period → UpTo ceiling old → Line period start weight old start old
-line-starts {period} {start} weight {old} h small =
+pub line-starts : {c period start : ℕ} (weight : ℕ) {old : List ℕ} → start < period → UpTo c old → Line c period start weight old start old
+line-starts {c} {period} {start} weight {old} h small =
     record {
       within = h;
       small = small;
       hit = mod-eq-of-lt h;
-      done = over (starts ceiling (spaced period start weight) old) small (omega arith) (λ i from to. spaced-miss period start i weight (λ e. let z = mod-eq-of-lt {n = i} {m = period} (omega arith) in omega arith));
+      done = over (starts c (spaced period start weight) old 0) small (omega arith) (λ i from to. spaced-miss period start i weight (λ e. let z = mod-eq-of-lt {n = i} {m = period} (omega arith) in omega arith));
     }
 
-pub line-next : {period start weight d v : ℕ} {old line : List ℕ} → Line period start weight old d line → d < length line → v ≡ capped ceiling (getD line d 0 + weight) → Line period start weight old (d + period) (set line d v)
-line-next {period} {start} {weight} {d} {v} {old} {line} so-far h e =
+pub line-next : {c period start weight d v : ℕ} {old line : List ℕ} → Line c period start weight old d line → d < length line → v ≡ capped c (getD line d 0 + weight) → Line c period start weight old (d + period) (set line d v)
+line-next {c} {period} {start} {weight} {d} {v} {old} {line} so-far h e =
     let l = so-far .done .as-long in
     let w = so-far .within in
-    let put = store (so-far .done) (omega arith) (e ∙ ap (λ n. capped ceiling (getD line d 0 + n)) (sym (spaced-hit period start d weight (so-far .hit)))) in
+    let put = store (so-far .done) (omega arith) (omega arith) (e ∙ ap (λ n. capped c (getD line d 0 + n)) (sym (spaced-hit period start d weight (so-far .hit)))) in
     record {
       within = so-far .within;
       small = so-far .small;
@@ -97,7 +97,7 @@ row-gain run source weight start x e =
     (hit-or-miss (isHit run source x)))
 
 -- so many whole lines of a map are done
-pub record Rows (weight : ℕ) (old : List ℕ) (window period step first : ℕ) (map : List ℕ) (start base : ℕ) : Type 0 where
+pub record Rows (c weight : ℕ) (old : List ℕ) (window period step first : ℕ) (map : List ℕ) (start base : ℕ) : Type 0 where
   pub lines : ℕ
   pub all : ℕ
   pub whole : length old ≡ window * all
@@ -107,10 +107,10 @@ pub record Rows (weight : ℕ) (old : List ℕ) (window period step first : ℕ)
   pub moves : step < period
   pub base-is : base ≡ lines * window
   pub start-is : start ≡ (first + lines * step) % period
-  pub small : UpTo ceiling old
-  pub done : RaisedBelow ceiling (rowGain window period step first weight) old base map
+  pub small : UpTo c old
+  pub done : RaisedBelow c (rowGain window period step first weight) old base map
 
-module _ {weight : ℕ} {old : List ℕ} {window period step first : ℕ} {map : List ℕ} {start base : ℕ} (rows : Rows weight old window period step first map start base) where
+module _ {c weight : ℕ} {old : List ℕ} {window period step first : ℕ} {map : List ℕ} {start base : ℕ} (rows : Rows c weight old window period step first map start base) where
   -- a line is left: it is there as a whole
   pub line-left : base < length map → base + window ≤ length map
   line-left h = go (decLt (rows .lines) (rows .all))
@@ -125,7 +125,7 @@ module _ {weight : ℕ} {old : List ℕ} {window period step first : ℕ} {map :
   start-below = let m = rows .moves in rw (rows .start-is) (mod-lt _ (omega arith))
 
   -- one more line
-  pub next-row : {part : List ℕ} {next : ℕ} → base < length map → next ≡ (start + step) % period → part ≡ raised ceiling (spaced period start weight) 0 (take (base + window - base) (drop base map)) → Rows weight old window period step first (putMid base (base + window - base) map part) next (base + window)
+  pub next-row : {part : List ℕ} {next : ℕ} → base < length map → next ≡ (start + step) % period → part ≡ raised c (spaced period start weight) 0 (take (base + window - base) (drop base map)) → Rows c weight old window period step first (putMid base (base + window - base) map part) next (base + window)
   unfolding rowGain
   next-row {part} {next} h f put =
       let n = rows .lines in
@@ -149,7 +149,7 @@ module _ {weight : ℕ} {old : List ℕ} {window period step first : ℕ} {map :
         done = patch (rows .done) (spaced period start weight) (omega arith) (omega arith) put (λ i (j : i < base + window - base). let inside : i < window = omega arith in rw (line i inside, place i inside, ← rows .start-is));
       }
 
-pub rows-start : {window period step first : ℕ} (weight : ℕ) (old : List ℕ) (all : ℕ) → length old ≡ window * all → 0 < window → window ≤ 4096 → period ≤ 2147483647 → step < period → first < period → UpTo ceiling old → Rows weight old window period step first old first 0
-rows-start {window} {period} {step} {first} weight old all whole some narrow short moves low small =
+pub rows-start : {c window period step first : ℕ} (weight : ℕ) (old : List ℕ) (all : ℕ) → length old ≡ window * all → 0 < window → window ≤ 4096 → period ≤ 2147483647 → step < period → first < period → UpTo c old → Rows c weight old window period step first old first 0
+rows-start {c} {window} {period} {step} {first} weight old all whole some narrow short moves low small =
     let none : first + 0 * step ≡ first = omega arith in
-    record { lines = 0; all = all; whole = whole; some = some; narrow = narrow; short = short; moves = moves; base-is = omega arith; start-is = sym (rw none (mod-eq-of-lt low)); small = small; done = starts ceiling _ old }
+    record { lines = 0; all = all; whole = whole; some = some; narrow = narrow; short = short; moves = moves; base-is = omega arith; start-is = sym (rw none (mod-eq-of-lt low)); small = small; done = starts c _ old 0 }

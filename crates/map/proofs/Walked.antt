@@ -1,31 +1,30 @@
--- A source with at most one hit on a line, added hit by hit: what the walk keeps. Assumes nothing.
-use Prim.Native.Nat.{ℕ, _+_, _*_, _%_, _≤_, _<_}
-use native.Mathlib.Nat.{add-zero, div-add-mod', mul-mod-right}
-use native.Mathlib.Decide.{decLt}
+-- A source with at most one hit on a line, added hit by hit: what the walk keeps while it goes to the left, and what it keeps
+-- from there to there. Assumes nothing.
+use Prim.Native.Nat.{ℕ, _+_, _≤_, _<_}
+use native.Mathlib.Nat.{add-zero}
 use native.Mathlib.Omega.{arith}
-use mathlib.Core.Path.{_≡_, sym, ap, _∙_}
+use mathlib.Core.Path.{_≡_, sym, ap, _∙_, subst}
 use mathlib.Core.Logic.{_⊎_, inl, inr, ⊎-elim}
-use mathlib.Core.Bool.{true, false}
-use mathlib.Core.List.{List, [], _∷_}
+use mathlib.Core.Bool.{true, false, true≢false}
+use mathlib.Core.List.{List}
 use lib.ListN.{length, getD, set}
+use lib.Signed.{_<ℤ_, ltZ}
+use mir.Syntax.{w64}
+use mir.Val.{toZ, ofZ}
 use Rattle.scope.specs.declared.Run.{Run}
 use Rattle.scope.specs.declared.Source.{Source}
-use Rattle.scope.specs.Run.{ValidRun, ValidSource, ceiling, UpTo, linesOf, cellsOf, lineOf}
+use Rattle.scope.specs.Run.{ceiling, UpTo, cellsOf, lineOf, offsetOf}
 use Rattle.scope.specs.Hit.{isHit}
-use Rattle.sources.specs.Entry.{Entry}
 use Rattle.scope.proofs.Numbering.{cell-order}
 use Rattle.scope.proofs.Hits.{hit-or-miss, one-hit-on-line}
 use Rattle.walk.specs.declared.Walk.{Walk}
 use Rattle.walk.specs.declared.LineHit.{LineHit}
-use Rattle.search.specs.InnerSearch.{FirstFrom}
-use Rattle.walk.specs.InnerWalk.{Leads, Stands, Walking, NextLine, Walks, Begins}
+use Rattle.walk.specs.InnerWalk.{Stands, Walking, NextLine, Walks, Begun}
+use Rattle.walk.proofs.Walks.{out-true, out-false}
 use Rattle.map.specs.Sum.{capped}
 use Rattle.map.specs.Promise.{weightAt}
-use Rattle.map.proofs.Raised.{RaisedBelow, starts, over, past, store}
-
--- the one source, as a list
-abbrev only : Source → ℕ → List Entry
-only source weight = record { source = source; weight = weight } ∷ []
+use Rattle.map.specs.Inner.{only, RaisedIn, Crosses, AddedLeft}
+use Rattle.map.proofs.Raised.{RaisedBelow, starts, over, store, joined, split}
 
 hit-weighs : (run : Run) (source : Source) (weight x : ℕ) → isHit run source x ≡ true → weightAt run (only source weight) x ≡ weight
 unfolding weightAt
@@ -35,32 +34,29 @@ miss-weighs : (run : Run) (source : Source) (weight x : ℕ) → isHit run sourc
 unfolding weightAt
 miss-weighs run source weight x e = rw (e, add-zero)
 
--- a run's cells are whole lines
-whole-lines : (run : Run) → cellsOf run % run .window ≡ 0
-unfolding cellsOf
-whole-lines run = mul-mod-right (run .window) (linesOf run)
+-- ---- to the left
 
--- what the walk starts from
-pub record Begun (run : Run) (source : Source) (walk : Walk) (old : List ℕ) : Type 0 where
-  pub valid : ValidRun run
-  pub source-valid : ValidSource source
-  pub wide : run .window ≤ source .period
-  pub leads : Leads run source walk
-  pub whole : length old ≡ cellsOf run
-  pub small : UpTo ceiling old
+hit-not-missed : (run : Run) (source : Source) (x : ℕ) → isHit run source x ≡ true → isHit run source x ≡ false → ⊥
+hit-not-missed run source x h k = true≢false (sym h ∙ k)
 
--- where it stands: the hits before are added, and this is the next one if it lies in the run
-pub record Walked (run : Run) (source : Source) (weight : ℕ) (old map : List ℕ) (at : LineHit) : Type 0 where
-  pub done : RaisedBelow ceiling (weightAt run (only source weight)) old (at .cell .0) map
+-- where the walk stands on its way to the left: the hits before are added, from each of them it went left, and this is the next
+-- one if it lies in the run
+pub record Leftward (run : Run) (source : Source) (walk : Walk) (weight : ℕ) (from at : LineHit) (old map : List ℕ) : Type 0 where
+  pub on : from .cell .0 ≤ at .cell .0
+  pub done : RaisedIn ceiling (weightAt run (only source weight)) old (from .cell .0) (at .cell .0) map
   pub stands : at .cell .0 < cellsOf run → Stands run source at
+  pub left : (x : ℕ) → from .cell .0 ≤ x → x < at .cell .0 → isHit run source x ≡ true → offsetOf run x <ℤ walk .low → ⊥
 
-module _ {run : Run} {source : Source} {walk : Walk} {old : List ℕ} (begun : Begun run source walk old) (weight : ℕ) where
+module _ {run : Run} {source : Source} {walk : Walk} {from : LineHit} {old : List ℕ} (crosses : Crosses run source walk from old) (weight : ℕ) where
+  pub left-starts : Leftward run source walk weight from from old old
+  left-starts = record { on = omega arith; done = starts ceiling _ old (from .cell .0); stands = crosses .stands; left = λ x low high. absurd (omega arith) }
+
   -- on the line of a hit no other cell is hit
   alone : (x z : ℕ) → isHit run source x ≡ true → x < z → lineOf run x ≡ lineOf run z → isHit run source z ≡ false
   alone x z h less same = go (hit-or-miss (isHit run source z))
     where
       go : (isHit run source z ≡ true) ⊎ (isHit run source z ≡ false) → isHit run source z ≡ false
-      go (inl k) = let e = one-hit-on-line (begun .valid) source x z (begun .wide) h k same in absurd (omega arith)
+      go (inl k) = let e = one-hit-on-line (crosses .valid) source x z (crosses .wide) h k same in absurd (omega arith)
       go (inr k) = k
 
   -- from a hit to the next there is none
@@ -69,54 +65,116 @@ module _ {run : Run} {source : Source} {walk : Walk} {old : List ℕ} (begun : B
       ⊎-elim
       (λ further. next .none z further high)
       (λ same. alone (at .cell .0) z (here .hit) low (same .0))
-      (cell-order (begun .valid) (at .cell .0) z .0 low)
+      (cell-order (crosses .valid) (at .cell .0) z .0 low)
 
-  -- the step from a hit to the next
-  on : {map : List ℕ} {at to : LineHit} → Walked run source weight old map at → at .cell .0 < length map → Walks walk at to → NextLine run source at to
-  on so-far inside walks =
-      let l = so-far .done .as-long in
-      let w = begun .whole in
-      walks run source (begun .valid) (begun .source-valid) (begun .leads) (so-far .stands (omega arith))
+  module _ {at : LineHit} {map : List ℕ} (so-far : Leftward run source walk weight from at old map) where
+    here : at .cell .0 < length map → Stands run source at
+    here inside = let l = so-far .done .as-long in let w = crosses .whole in so-far .stands (omega arith)
 
-  pub walk-rises : {map : List ℕ} {at to : LineHit} → Walked run source weight old map at → at .cell .0 < length map → Walks walk at to → at .cell .0 < to .cell .0
-  walk-rises so-far inside walks = on so-far inside walks .rises
+    -- the next place can be asked for
+    pub walking : at .cell .0 < length map → Walking walk at
+    walking inside =
+        let l = so-far .done .as-long in
+        let w = crosses .whole in
+        record { run = run; source = source; valid = crosses .valid; source-valid = crosses .source-valid; leads = crosses .leads; stands = here inside; inside = omega arith }
 
-  -- a hit is added, and the walk goes on
-  pub walk-on : {map : List ℕ} {at to : LineHit} {cell v : ℕ} → Walked run source weight old map at → cell ≡ at .cell .0 → cell < length map → v ≡ capped ceiling (getD map cell 0 + weight) → Walks walk at to → Walked run source weight old (set map cell v) to
-  walk-on {map} {at} {to} {cell} {v} so-far same inside e walks =
-      let l = so-far .done .as-long in
-      let w = begun .whole in
-      let here = so-far .stands (omega arith) in
-      let next = on so-far (omega arith) walks in
-      let put = store (so-far .done) (omega arith) ((rw same at e) ∙ ap (λ n. capped ceiling (getD map (at .cell .0) 0 + n)) (sym (hit-weighs run source weight (at .cell .0) (here .hit)))) in
-      record {
-        done = rw same (over put (begun .small) (next .rises) (λ z from to. miss-weighs run source weight z (between here next z from to)));
-        stands = λ k. next .stands;
-      }
+    -- past the map the walk has ended
+    pub left-ends : length map ≤ at .cell .0 → AddedLeft run source walk weight from at old map
+    left-ends past =
+        let l = so-far .done .as-long in
+        record {
+          on = so-far .on;
+          done = so-far .done;
+          stands = so-far .stands;
+          turns = λ x y low less high hit right. absurd (so-far .left x low (omega arith) hit right);
+          stops = λ inside. absurd (omega arith);
+        }
 
-  pub walking : {map : List ℕ} {at : LineHit} → Walked run source weight old map at → at .cell .0 < length map → Walking walk at
-  walking so-far inside =
-      let l = so-far .done .as-long in
-      let w = begun .whole in
-      record { run = run; source = source; valid = begun .valid; source-valid = begun .source-valid; leads = begun .leads; stands = so-far .stands (omega arith); inside = omega arith }
+    module _ {to : LineHit} (inside : at .cell .0 < length map) (walks : Walks walk at to) where
+      next : NextLine run source at to
+      next = walks run source (crosses .valid) (crosses .source-valid) (crosses .leads) (here inside)
 
-  -- the walk starts at the first hit
-  pub walk-starts : {cell : ℕ} {at : LineHit} → FirstFrom run source 0 cell → Begins run source cell at → Walked run source weight old old at
-  walk-starts {cell} {at} first begins = go (decLt cell (cellsOf run))
-    where
-      so : RaisedBelow ceiling (weightAt run (only source weight)) old cell old
-      so = over (starts ceiling _ old) (begun .small) (omega arith) (λ z from to. miss-weighs run source weight z (first .none z from to))
+      pub rises : at .cell .0 < to .cell .0
+      rises = next .rises
 
-      go : Dec (cell < cellsOf run) → Walked run source weight old old at
-      go (yes k) =
-          let here = begins .stands (first .hit k) in
-          let line : lineOf run (at .cell .0) ≡ lineOf run cell = unfold lineOf in ap (λ n. run .first + n) (begins .line) in
-          let same = one-hit-on-line (begun .valid) source (at .cell .0) cell (begun .wide) (here .hit) (first .hit k) line in
-          record { done = rw same so; stands = λ h. here }
-      go (no k) =
-          let w = run .window in
-          let end : cell ≡ cellsOf run = let t = first .to in omega arith in
-          let whole : cell % w ≡ 0 = rw end (whole-lines run) in
-          let far : cell ≤ at .cell .0 = omega (arith, div-add-mod' cell w, div-add-mod' (at .cell .0) w, ap (λ n. n * w) (begins .line)) in
-          let l = begun .whole in
-          record { done = past so (omega arith) far; stands = λ h. absurd (omega arith) }
+      none : (z : ℕ) → at .cell .0 < z → z < to .cell .0 → isHit run source z ≡ false
+      none = between (here inside) next
+
+      -- the hit is added
+      put : {cell v : ℕ} → UpTo ceiling old → cell ≡ at .cell .0 → v ≡ capped ceiling (getD map cell 0 + weight) → RaisedIn ceiling (weightAt run (only source weight)) old (from .cell .0) (to .cell .0) (set map cell v)
+      put {cell} {v} small same e =
+          let l = so-far .done .as-long in
+          let weighs = hit-weighs run source weight (at .cell .0) (here inside .hit) in
+          rw same (over (store (so-far .done) (so-far .on) (omega arith) ((rw same at e) ∙ ap (λ n. capped ceiling (getD map (at .cell .0) 0 + n)) (sym weighs))) small (next .rises) (λ z low high. miss-weighs run source weight z (none z low high)))
+
+      -- and the walk goes on to the left
+      pub left-on : {cell v : ℕ} → UpTo ceiling old → cell ≡ at .cell .0 → v ≡ capped ceiling (getD map cell 0 + weight) → ltZ (toZ w64 (ofZ w64 (at .offset))) (toZ w64 (ofZ w64 (walk .low))) ≡ false → Leftward run source walk weight from to old (set map cell v)
+      left-on small is e test =
+          let leftward = out-false (crosses .valid) (crosses .source-valid) (crosses .leads) (here inside) test in
+          let r = next .rises in
+          let o = so-far .on in
+          record {
+            on = omega arith;
+            done = put small is e;
+            stands = λ k. next .stands;
+            left = λ x low high hit right. ⊎-elim
+                (λ before. so-far .left x low before hit right)
+                (λ not-before. ⊎-elim
+                (λ beyond. absurd (hit-not-missed run source x hit (none x beyond high)))
+                (λ not-beyond. let same : x ≡ at .cell .0 = omega arith in leftward (subst (λ i. i <ℤ walk .low) (sym (here inside .offset)) (rw same at right)))
+                (split (at .cell .0) x))
+                (split x (at .cell .0));
+          }
+
+      -- or it turns, and that is all
+      pub left-turns : {cell v : ℕ} → UpTo ceiling old → cell ≡ at .cell .0 → v ≡ capped ceiling (getD map cell 0 + weight) → ltZ (toZ w64 (ofZ w64 (at .offset))) (toZ w64 (ofZ w64 (walk .low))) ≡ true → AddedLeft run source walk weight from to old (set map cell v)
+      left-turns small is e test =
+          let right = out-true (crosses .valid) (crosses .source-valid) (crosses .leads) (here inside) test in
+          let r = next .rises in
+          let o = so-far .on in
+          record {
+            on = omega arith;
+            done = put small is e;
+            stands = λ k. next .stands;
+            turns = λ x y low less high hit turned. ⊎-elim
+                (λ before. absurd (so-far .left x low before hit turned))
+                (λ not-before. none y (omega arith) high)
+                (split x (at .cell .0));
+            stops = λ _. (at .cell .0, so-far .on, next .rises, here inside .hit, subst (λ i. i <ℤ walk .low) (here inside .offset) right, none);
+          }
+
+-- ---- all hits
+
+-- where the walk stands: the hits before are added, and this is the next one if it lies in the run
+pub record Walked (run : Run) (source : Source) (weight : ℕ) (old map : List ℕ) (at : LineHit) : Type 0 where
+  pub done : RaisedBelow ceiling (weightAt run (only source weight)) old (at .cell .0) map
+  pub stands : at .cell .0 < cellsOf run → Stands run source at
+
+-- it starts at the first hit
+pub walk-starts : {run : Run} {source : Source} {old : List ℕ} {at : LineHit} (weight : ℕ) → UpTo ceiling old → Begun run source at → Walked run source weight old old at
+walk-starts {run} {source} {old} {at} weight small begun =
+    record { done = over (starts ceiling _ old 0) small (omega arith) (λ z low high. miss-weighs run source weight z (begun .first .none z low high)); stands = begun .stands }
+
+-- and goes on from a hit after those to the left
+pub walk-on : {run : Run} {source : Source} {walk : Walk} {weight : ℕ} {old map after : List ℕ} {at to : LineHit} → Walked run source weight old map at → AddedLeft run source walk weight at to map after → Walked run source weight old after to
+walk-on so-far more = record { done = joined (so-far .done) (omega arith) (more .on) (more .done); stands = more .stands }
+
+-- what is walked over stays the run's map, wherever the walk stands
+pub crosses-at : {run : Run} {source : Source} {walk : Walk} {weight : ℕ} {old map : List ℕ} {from at : LineHit} → Crosses run source walk from old → Walked run source weight old map at → Crosses run source walk at map
+crosses-at crosses so-far =
+    record {
+      valid = crosses .valid;
+      source-valid = crosses .source-valid;
+      wide = crosses .wide;
+      leads = crosses .leads;
+      stands = so-far .stands;
+      whole = so-far .done .as-long ∙ crosses .whole;
+    }
+
+-- one hit at least is added
+pub walk-rises : {run : Run} {source : Source} {walk : Walk} {weight : ℕ} {map after : List ℕ} {at to : LineHit} → AddedLeft run source walk weight at to map after → at .cell .0 < length map → at .cell .0 < to .cell .0
+walk-rises {run} {source} {walk} {weight} {map} {after} {at} {to} more inside =
+    ⊎-elim
+    (λ within. let s = more .stops within in omega (arith, s .1, s .2))
+    (λ past. omega arith)
+    (split (to .cell .0) (length map))

@@ -1,18 +1,26 @@
 -- What the inner steps of the map call speak of besides 01's words.
-use Prim.Native.Nat.{ℕ, _%_, min}
+use Prim.Native.Nat.{ℕ, _+_, _%_, _≤_, _<_, min}
 use mathlib.Core.Path.{_≡_}
-use mathlib.Core.Bool.{cond}
+use mathlib.Core.Bool.{true, false, cond}
 use mathlib.Core.Option.{none}
 use mathlib.Core.List.{List, [], _∷_}
 use lib.Dec.{ltb, leb, eqb}
-use lib.ListN.{length}
+use lib.ListN.{length, getD}
+use lib.Signed.{_<ℤ_}
 use Rattle.scope.specs.declared.Run.{Run}
-use Rattle.scope.specs.Run.{ValidRun, ceiling, cellsOf}
+use Rattle.scope.specs.declared.Source.{Source}
+use Rattle.scope.specs.Run.{ValidRun, ValidSource, ceiling, cellsOf, offsetOf}
+use Rattle.scope.specs.Hit.{isHit}
 use Rattle.scope.specs.Refusal.{complaint}
 use Rattle.sources.specs.Entry.{Entry, entriesOf, listTests}
+use Rattle.walk.specs.declared.Walk.{Walk}
+use Rattle.walk.specs.declared.LineHit.{LineHit}
+use Rattle.walk.specs.InnerWalk.{Leads, Stands}
+use Rattle.map.specs.Sum.{capped}
+use Rattle.map.specs.Promise.{weightAt}
 
 -- What is looked at before the first store: the run, the two lists and the map's length are in order.
-pub record Addable (run : Run) (periods weights map : List ℕ) : Type 0 where
+pub record ValidCall (run : Run) (periods weights map : List ℕ) : Type 0 where
   pub valid : ValidRun run
   pub equal : length periods ≡ length weights
   pub sound : complaint (listTests ceiling 1 (entriesOf periods weights)) ≡ none
@@ -33,3 +41,42 @@ spaced period start weight d = cond (eqb (d % period) start) weight 0
 unfoldable pub shortestOf : List ℕ → ℕ
 shortestOf [] = 2147483648
 shortestOf (period ∷ periods) = min period (shortestOf periods)
+
+-- One source, as a list of entries.
+abbrev pub only : Source → ℕ → List Entry
+only source weight = record { source = source; weight = weight } ∷ []
+
+-- The cells with numbers from x to before y have got what they gain, and all others are as they were.
+pub record RaisedIn (c : ℕ) (gain : ℕ → ℕ) (old : List ℕ) (x y : ℕ) (cells : List ℕ) : Type 0 where
+  pub as-long : length cells ≡ length old
+  pub below : (i : ℕ) → i < x → getD cells i 0 ≡ getD old i 0
+  pub within : (i : ℕ) → x ≤ i → i < y → i < length old → getD cells i 0 ≡ capped c (getD old i 0 + gain i)
+  pub above : (i : ℕ) → y ≤ i → getD cells i 0 ≡ getD old i 0
+
+-- A walk over the map of a run, of a source with at most one hit on a line, at a hit or past the run.
+pub record Crosses (run : Run) (source : Source) (walk : Walk) (at : LineHit) (map : List ℕ) : Type 0 where
+  pub valid : ValidRun run
+  pub source-valid : ValidSource source
+  pub wide : run .window ≤ source .period
+  pub leads : Leads run source walk
+  pub stands : at .cell .0 < cellsOf run → Stands run source at
+  pub whole : length map ≡ cellsOf run
+
+-- The same, of some run and source.
+pub record Crossing (walk : Walk) (at : LineHit) (map : List ℕ) : Type 0 where
+  pub run : Run
+  pub source : Source
+  pub is : Crosses run source walk at map
+
+-- The hits from `from` to before `to` are added. Those are all that the step to the left leads to, one after the other, and no
+-- more: after a hit to the left of `low` there is none of them, and `to` comes next after such a hit, or lies past the map.
+pub record AddedLeft (run : Run) (source : Source) (walk : Walk) (weight : ℕ) (from to : LineHit) (map after : List ℕ) : Type 0 where
+  pub on : from .cell .0 ≤ to .cell .0
+  pub done : RaisedIn ceiling (weightAt run (only source weight)) map (from .cell .0) (to .cell .0) after
+  pub stands : to .cell .0 < cellsOf run → Stands run source to
+  pub turns : (x y : ℕ) → from .cell .0 ≤ x → x < y → y < to .cell .0 → isHit run source x ≡ true → offsetOf run x <ℤ walk .low → isHit run source y ≡ false
+  pub stops : to .cell .0 < length map → (x : ℕ) × (from .cell .0 ≤ x) × (x < to .cell .0) × (isHit run source x ≡ true) × (offsetOf run x <ℤ walk .low) × ((z : ℕ) → x < z → z < to .cell .0 → isHit run source z ≡ false)
+
+-- The same, for every run and source that the walk is for.
+abbrev pub AddsLeft : Walk → ℕ → LineHit → LineHit → List ℕ → List ℕ → Type 0
+AddsLeft walk weight from to map after = (run : Run) (source : Source) → Crosses run source walk from map → AddedLeft run source walk weight from to map after

@@ -3,9 +3,10 @@
 use scope::BlockCell;
 use scope::CEILING;
 use scope::Run;
-use scope::RunCell;
 use scope::Source;
 use scope::Verdict;
+use walk::LineHit;
+use walk::Walk;
 ghost use mathlib.Core.Path.{_≡_};
 ghost use mathlib.Core.List.{[], _∷_};
 ghost use Prim.Native.Nat.{min, _+_, _-_, _≤_, _<_, _^_};
@@ -15,7 +16,7 @@ ghost use Rattle.scope.specs.InnerBlock.{IsBlock};
 ghost use Rattle.sources.specs.Entry.{entriesOf};
 ghost use Rattle.map.specs.Sum.{capped, raised};
 ghost use Rattle.map.specs.Promise.{added, MapPromise};
-ghost use Rattle.map.specs.Inner.{Addable, chosen, spaced, shortestOf};
+ghost use Rattle.map.specs.Inner.{ValidCall, Crossing, AddsLeft, chosen, spaced, shortestOf};
 
 // The reply of the map call.
 pub enum Added {
@@ -78,19 +79,39 @@ fn add_rows(run: Run, source: Source, weight: u8, map: &mut [u8])
     }
 }
 
-// Adds a source with at most one hit on a line to the map of a run, hit by hit. The vectors are worked out once; from a hit
-// to the next it is then at most two comparisons, and two sums, however many lines lie between.
+// Adds a weight at a hit, and then at every hit that the walk's step to the left alone leads to; what comes back is the first hit
+// after those, or a place past the map. A loop of its own, since the compiler keeps a branch here and not a chain of selects.
+fn add_leftward(walk: Walk, from: LineHit, weight: u8, map: &mut [u8]) -> LineHit
+    requires { ⌜ Crossing walk from (now map) ⌝ }
+    ensures { λ to. ⌜ AddsLeft walk weight from to (now (map .entry)) (now (map .exit)) ⌝ }
+{
+    let mut at = from;
+    let mut cell = at.cell.0 as usize;
+    while cell < map.len() {
+        map[cell] = plus(map[cell], weight);
+        if at.offset < walk.low {
+            return walk.next(at);
+        }
+        at = walk.next(at);
+        cell = at.cell.0 as usize;
+    }
+    at
+}
+
+// Adds a source with at most one hit on a line to the map of a run, hit by hit. The vectors are worked out once, and only where
+// the run has a hit; from a hit to the next it is then at most two comparisons, and two sums, however many lines lie between.
 fn add_hits(run: Run, source: Source, weight: u8, map: &mut [u8])
     requires { ⌜ ValidRun run × ValidSource source × (run .window ≤ source .period) × (length (now map) ≡ cellsOf run) ⌝ }
     ensures { λ _. ⌜ now (map .exit) ≡ added ceiling run (record { source = source; weight = weight } ∷ []) (now (map .entry)) ⌝ }
 {
-    let walk = walk::plan(run, source);
-    let first = search::find_hit(run, source, RunCell(0));
-    let mut at = walk::line_hit_of(run, source, first);
+    let mut at = walk::begin(run, source);
     let mut cell = at.cell.0 as usize;
+    if map.len() <= cell {
+        return;
+    }
+    let walk = walk::plan(run, source);
     while cell < map.len() {
-        map[cell] = plus(map[cell], weight);
-        at = walk.next(at);
+        at = add_leftward(walk, at, weight, map);
         cell = at.cell.0 as usize;
     }
 }
@@ -109,7 +130,7 @@ fn add_source(run: Run, source: Source, weight: u8, map: &mut [u8])
 
 // Adds the sources with low ≤ period < high to the map of a run, one after the other.
 fn add_chosen(run: Run, periods: &[u32], weights: &[u32], low: u32, high: u32, map: &mut [u8])
-    requires { ⌜ Addable run (now periods) (now weights) (now map) ⌝ }
+    requires { ⌜ ValidCall run (now periods) (now weights) (now map) ⌝ }
     ensures { λ _. ⌜ now (map .exit) ≡ added ceiling run (chosen low high (entriesOf (now (periods .entry)) (now (weights .entry)))) (now (map .entry)) ⌝ }
 {
     let mut place = 0;
@@ -144,7 +165,7 @@ fn block_from(run: Run, first: u32, lines: u32) -> Run
 
 // Adds the sources with period < high to the map of a run, one block of so many lines after the other.
 fn add_blocks(run: Run, periods: &[u32], weights: &[u32], high: u32, lines: u32, map: &mut [u8])
-    requires { ⌜ Addable run (now periods) (now weights) (now map) × (1 ≤ lines) ⌝ }
+    requires { ⌜ ValidCall run (now periods) (now weights) (now map) × (1 ≤ lines) ⌝ }
     ensures { λ _. ⌜ now (map .exit) ≡ added ceiling run (chosen 0 high (entriesOf (now (periods .entry)) (now (weights .entry)))) (now (map .entry)) ⌝ }
 {
     let mut first = run.first;
@@ -181,7 +202,7 @@ fn shortest(periods: &[u32]) -> u32
 
 // Adds all sources to the map of a run: in blocks those with short periods, where the map is long, and in one go the others.
 fn add_all(run: Run, periods: &[u32], weights: &[u32], map: &mut [u8])
-    requires { ⌜ Addable run (now periods) (now weights) (now map) ⌝ }
+    requires { ⌜ ValidCall run (now periods) (now weights) (now map) ⌝ }
     ensures { λ _. ⌜ now (map .exit) ≡ added ceiling run (entriesOf (now (periods .entry)) (now (weights .entry))) (now (map .entry)) ⌝ }
 {
     if LONG < map.len() {

@@ -11,7 +11,7 @@ use Rattle.scope.proofs.Judged.{Passes}
 use Rattle.scope.proofs.Limits.{passes-first, passes-then}
 use Rattle.fileblocks.specs.FileBlock.{fileBlockBytes, contentBytes, Bytes, fileBlockOf, contents, fileBlockTests}
 use Rattle.saved.specs.File.{laterFileBlocks, fileBlocksFor, fileLength, bytesFor, fileOf, fileBlockAt, runOf, bytesIn, mapOf, laterFileBlocksTests}
-use Rattle.saved.proofs.Lists.{take-take-min, take-drop-swap}
+use Rattle.rooms.proofs.Lists.{take-take-min, take-drop-swap}
 use Rattle.saved.proofs.Joined.{Even, first-joined-at, first-joined-is}
 use Rattle.saved.proofs.Bytes.{bytes-fileBlockAt}
 use Rattle.saved.proofs.Cells.{cell-bytes, enough-file-blocks, file-block-front, length-fileBlockAt, length-contents, length-bytesIn}

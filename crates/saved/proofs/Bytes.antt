@@ -1,32 +1,12 @@
 -- Lists of bytes, of which no one is above 255. Assumes nothing.
 use Prim.Native.Nat.{ℕ, zero, suc, _-_, _*_, _≤_, _<_}
-use mathlib.Core.List.{List, [], _∷_, _++_}
+use mathlib.Core.List.{List}
 use native.Mathlib.Omega.{arith}
-use lib.ListN.{length, getD, take, drop, replicate}
+use lib.ListN.{length, getD, take, drop}
+use Rattle.rooms.proofs.Lists.{up-to-take, up-to-drop, up-to-append, up-to-zeros}
 use Rattle.fileblocks.specs.FileBlock.{fileBlockBytes, contentBytes, checkAt, Bytes, four, filled, weighted, checkOf}
 use Rattle.saved.specs.File.{fileBlockAt}
 use Rattle.fileblocks.proofs.Number.{term-small}
-
-pub bytes-take : (n : ℕ) (l : List ℕ) → Bytes l → Bytes (take n l)
-bytes-take zero l b i = omega arith
-bytes-take (suc n) [] b i = omega arith
-bytes-take (suc n) (x ∷ xs) b zero = b 0
-bytes-take (suc n) (x ∷ xs) b (suc i) = bytes-take n xs (λ k. b (suc k)) i
-
-pub bytes-drop : (n : ℕ) (l : List ℕ) → Bytes l → Bytes (drop n l)
-bytes-drop zero l b i = b i
-bytes-drop (suc n) [] b i = omega arith
-bytes-drop (suc n) (x ∷ xs) b i = bytes-drop n xs (λ k. b (suc k)) i
-
-pub bytes-append : (l r : List ℕ) → Bytes l → Bytes r → Bytes (l ++ r)
-bytes-append [] r b c i = c i
-bytes-append (x ∷ xs) r b c zero = b 0
-bytes-append (x ∷ xs) r b c (suc i) = bytes-append xs r (λ k. b (suc k)) c i
-
-pub bytes-zeros : (n : ℕ) → Bytes (replicate n 0)
-bytes-zeros zero i = omega arith
-bytes-zeros (suc n) zero = omega arith
-bytes-zeros (suc n) (suc i) = bytes-zeros n i
 
 pub bytes-four : (n : ℕ) → Bytes (four n)
 unfolding four
@@ -38,11 +18,11 @@ bytes-four n (suc (suc (suc (suc i)))) = omega arith
 
 pub bytes-filled : (l : List ℕ) → Bytes l → Bytes (filled l)
 unfolding filled
-bytes-filled l b = bytes-append (take contentBytes l) _ (bytes-take contentBytes l b) (bytes-zeros (contentBytes - length l))
+bytes-filled l b = up-to-append (take contentBytes l) _ (up-to-take contentBytes l b) (up-to-zeros (contentBytes - length l))
 
 pub bytes-fileBlockAt : (file : List ℕ) (k : ℕ) → Bytes file → Bytes (fileBlockAt file k)
 unfolding fileBlockAt
-bytes-fileBlockAt file k b = bytes-take fileBlockBytes (drop (fileBlockBytes * k) file) (bytes-drop (fileBlockBytes * k) file b)
+bytes-fileBlockAt file k b = up-to-take fileBlockBytes (drop (fileBlockBytes * k) file) (up-to-drop (fileBlockBytes * k) file b)
 
 -- the check of bytes fits its four bytes
 weighted-small : (l : List ℕ) → Bytes l → (n : ℕ) → n ≤ checkAt → weighted l n ≤ 129540 * n

@@ -16,7 +16,7 @@ pub record Even (lists : ℕ → List ℕ) (size n : ℕ) : Type 0 where
 fewer : {lists : ℕ → List ℕ} {size n : ℕ} → Even lists size (suc n) → Even lists size n
 fewer e = record { each = λ k h. e .each k (omega arith) }
 
-pub length-joined : {lists : ℕ → List ℕ} {size : ℕ} (n : ℕ) → Even lists size n → length (firstJoined lists n) ≡ size * n
+length-joined : {lists : ℕ → List ℕ} {size : ℕ} (n : ℕ) → Even lists size n → length (firstJoined lists n) ≡ size * n
 unfolding firstJoined
 length-joined {size} zero e = omega arith
 length-joined {lists} {size} (suc n) e =

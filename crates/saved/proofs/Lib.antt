@@ -1,4 +1,3 @@
-pub mod Lists
 pub mod Joined
 pub mod Bytes
 pub mod Cells

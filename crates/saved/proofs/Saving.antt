@@ -7,6 +7,7 @@ use native.Mathlib.Omega.{arith}
 use borrow.Author.Tests.{ne-eqb}
 use lib.ListN.{length, take, drop, length-append, length-drop}
 use lib.Seq.{take-nil, take-all, take-at, drop-at, take-add, drop-drop, take-append-add}
+use Rattle.rooms.proofs.Lists.{up-to-drop}
 use Rattle.scope.specs.declared.Run.{Run}
 use Rattle.scope.specs.Run.{ValidRun, cellsOf}
 use Rattle.scope.proofs.Judged.{Passes, sound, both, no-tests}
@@ -14,14 +15,13 @@ use Rattle.scope.proofs.Limits.{valid-run-passes, cells-few}
 use Rattle.fileblocks.specs.FileBlock.{fileBlockBytes, contentBytes, Bytes, filled, fileBlockOf, contents}
 use Rattle.saved.specs.File.{heading, firstJoined, laterFileBlocks, fileBlocksFor, fileLength, bytesFor, fileOf, fileBlockAt, runOf, bytesIn, mapOf, laterFileBlocksTests, fileTests}
 use Rattle.saved.proofs.Joined.{first-joined-at}
-use Rattle.saved.proofs.Bytes.{bytes-drop}
 use Rattle.fileblocks.proofs.FileBlock.{length-fileBlockOf, take-filled}
 use Rattle.saved.proofs.Cells.{cell-bytes, begun-file-block, enough-file-blocks, length-laterFileBlocks, length-bytesIn}
 use Rattle.saved.proofs.Sealing.{file-block-passes, file-block-contents}
 use Rattle.saved.proofs.Heading.{run-told, heading-passes}
 use Rattle.scope.proofs.Differs.{agrees}
 
-pub length-file : (run : Run) (map : List ℕ) → length (fileOf run map) ≡ fileLength (bytesFor run)
+length-file : (run : Run) (map : List ℕ) → length (fileOf run map) ≡ fileLength (bytesFor run)
 unfolding fileOf fileLength
 length-file run map =
     let h = length-fileBlockOf 0 (heading run) in
@@ -29,11 +29,11 @@ length-file run map =
     simp length-append (omega arith)
 
 -- block 0 of the file, and the others
-pub head-at : (run : Run) (map : List ℕ) → fileBlockAt (fileOf run map) 0 ≡ fileBlockOf 0 (heading run)
+head-at : (run : Run) (map : List ℕ) → fileBlockAt (fileOf run map) 0 ≡ fileBlockOf 0 (heading run)
 unfolding fileBlockAt fileOf
 head-at run map = take-at (fileBlockOf 0 (heading run)) (laterFileBlocks map (fileBlocksFor (bytesFor run))) fileBlockBytes (length-fileBlockOf 0 (heading run))
 
-pub cells-at : (run : Run) (map : List ℕ) (k : ℕ) → k < fileBlocksFor (bytesFor run) → fileBlockAt (fileOf run map) (suc k) ≡ fileBlockOf (suc k) (drop (contentBytes * k) map)
+cells-at : (run : Run) (map : List ℕ) (k : ℕ) → k < fileBlocksFor (bytesFor run) → fileBlockAt (fileOf run map) (suc k) ≡ fileBlockOf (suc k) (drop (contentBytes * k) map)
 unfolding fileBlockAt fileOf laterFileBlocks
 cells-at run map k h =
     let n = fileBlocksFor (bytesFor run) in
@@ -93,10 +93,10 @@ module _ (run : Run) (map : List ℕ) (v : ValidRun run) (whole : length map ≡
       ∙ cells-read n (le-refl n)
       ∙ take-all (contentBytes * n) map (omega arith)
 
-  pub cells-pass : Bytes map → (n : ℕ) → n ≤ fileBlocksFor (bytesFor run) → Passes (laterFileBlocksTests (bytesFor run) (fileOf run map) n)
+  cells-pass : Bytes map → (n : ℕ) → n ≤ fileBlocksFor (bytesFor run) → Passes (laterFileBlocksTests (bytesFor run) (fileOf run map) n)
   unfolding laterFileBlocksTests
   cells-pass b zero h = no-tests
-  cells-pass b (suc k) h = both (cells-pass b k (omega arith)) (rw (cells-at run map k h) (file-block-passes (suc k) (drop (contentBytes * k) map) (bytesFor run - contentBytes * k) (number-fits h) (bytes-drop (contentBytes * k) map b) (let one = cell-bytes run in simp length-drop (omega arith))))
+  cells-pass b (suc k) h = both (cells-pass b k (omega arith)) (rw (cells-at run map k h) (file-block-passes (suc k) (drop (contentBytes * k) map) (bytesFor run - contentBytes * k) (number-fits h) (up-to-drop (contentBytes * k) map b) (let one = cell-bytes run in simp length-drop (omega arith))))
 
   pub file-passes : Bytes map → Passes (fileTests (fileOf run map))
   unfolding fileTests fileLength

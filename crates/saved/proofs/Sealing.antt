@@ -7,16 +7,17 @@ use native.Mathlib.Nat.{add-zero, le-of-eq}
 use native.Mathlib.Omega.{arith}
 use lib.ListN.{length, getD, take, drop, length-take, length-drop, take-append-drop}
 use lib.Seq.{getD-take, getD-drop, take-all, take-add, drop-at, take-at}
-use Rattle.fileblocks.specs.FileBlock.{fileBlockBytes, contentBytes, checkAt, Bytes, four, fourAt, checkOf, filled, sealed, fileBlockOf, contents, allZero, fileBlockTests}
+use Rattle.fileblocks.specs.FileBlock.{fileBlockBytes, contentBytes, checkAt, Bytes, four, fourAt, checkOf, filled, fileBlockOf, contents, allZero, fileBlockTests}
 use borrow.Author.Tests.{not-false}
+use Rattle.rooms.proofs.Lists.{up-to-take, up-to-drop, up-to-append}
 use Rattle.scope.proofs.Judged.{Passes, sound, both}
 use Rattle.scope.proofs.Limits.{passes-first, passes-then, passes-when}
-use Rattle.fileblocks.proofs.Filling.{all-zero-behind, all-zero-replicate}
-use Rattle.saved.proofs.Bytes.{bytes-take, bytes-drop, bytes-append, bytes-four, bytes-filled, check-small}
+use Rattle.fileblocks.proofs.Filling.{all-zero-behind, all-zero-zeros}
+use Rattle.saved.proofs.Bytes.{bytes-four, bytes-filled, check-small}
 use Rattle.fileblocks.proofs.FileBlock.{length-four, length-filled, length-front, check-front, sealed-right}
 
 -- a number that was written is read
-pub four-read : (n : ℕ) (rest : List ℕ) → n < 4294967296 → fourAt (four n ++ rest) 0 ≡ n
+four-read : (n : ℕ) (rest : List ℕ) → n < 4294967296 → fourAt (four n ++ rest) 0 ≡ n
 unfolding four fourAt
 four-read n rest h = omega arith
 
@@ -46,34 +47,34 @@ four-there (a ∷ b ∷ c ∷ d ∷ x ∷ l) e h = absurd (omega arith)
 byte-at : (l : List ℕ) (k n i : ℕ) → i < n → getD (take n (drop k l)) i 0 ≡ getD l (k + i) 0
 byte-at l k n i h = getD-take n (drop k l) i 0 h ∙ getD-drop k l i 0
 
-pub four-drop : (l : List ℕ) (k n : ℕ) → 4 ≤ n → fourAt (take n (drop k l)) 0 ≡ fourAt l k
+four-drop : (l : List ℕ) (k n : ℕ) → 4 ≤ n → fourAt (take n (drop k l)) 0 ≡ fourAt l k
 unfolding fourAt
 four-drop l k n h = rw (byte-at l k n 0 (omega arith), byte-at l k n 1 (omega arith), byte-at l k n 2 (omega arith), byte-at l k n 3 (omega arith), add-zero k)
 
 pub four-back : (l : List ℕ) (k : ℕ) → Bytes l → k + 4 ≤ length l → take 4 (drop k l) ≡ four (fourAt l k)
-four-back l k b h = sym (ap four (sym (four-drop l k 4 (omega arith))) ∙ four-there (take 4 (drop k l)) (simp (length-take, length-drop) (omega arith)) (bytes-take 4 (drop k l) (bytes-drop k l b)))
+four-back l k b h = sym (ap four (sym (four-drop l k 4 (omega arith))) ∙ four-there (take 4 (drop k l)) (simp (length-take, length-drop) (omega arith)) (up-to-take 4 (drop k l) (up-to-drop k l b)))
 
 -- the parts of a block that is laid down
 module _ (k : ℕ) (bytes : List ℕ) where
   pub file-block-contents : contents (fileBlockOf k bytes) ≡ filled bytes
-  unfolding contents fileBlockOf sealed
+  unfolding contents fileBlockOf
   file-block-contents =
       ap (λ l. take contentBytes (drop 4 l)) (append-assoc (four k) (filled bytes) (four (checkOf (four k ++ filled bytes))))
       ∙ ap (take contentBytes) (drop-at (four k) (filled bytes ++ four (checkOf (four k ++ filled bytes))) 4 (length-four k))
       ∙ take-at (filled bytes) (four (checkOf (four k ++ filled bytes))) contentBytes (length-filled bytes)
 
   file-block-number : k < 4294967296 → fourAt (fileBlockOf k bytes) 0 ≡ k
-  unfolding fileBlockOf sealed
+  unfolding fileBlockOf
   file-block-number h =
       ap (λ l. fourAt l 0) (append-assoc (four k) (filled bytes) (four (checkOf (four k ++ filled bytes))))
       ∙ four-read k (filled bytes ++ four (checkOf (four k ++ filled bytes))) h
 
   file-block-check : Bytes bytes → fourAt (fileBlockOf k bytes) checkAt ≡ checkOf (fileBlockOf k bytes)
-  unfolding fileBlockOf sealed
+  unfolding fileBlockOf
   file-block-check b =
       let front = four k ++ filled bytes in
       let check = checkOf front in
-      let small = check-small front (bytes-append (four k) (filled bytes) (bytes-four k) (bytes-filled bytes b)) in
+      let small = check-small front (up-to-append (four k) (filled bytes) (bytes-four k) (bytes-filled bytes b)) in
       sym (four-drop (front ++ four check) checkAt 4 (omega arith))
       ∙ ap (λ l. fourAt (take 4 l) 0) (drop-at front (four check) checkAt (length-front k bytes))
       ∙ ap (λ l. fourAt l 0) (take-all 4 (four check) (le-of-eq (length-four check)) ∙ sym (append-nil (four check)))
@@ -97,11 +98,11 @@ unfolding filled
 filled-front l size e z =
     let short : length (take size l) ≤ contentBytes = simp length-take (omega arith) in
     let rest : length (drop size l) ≡ contentBytes - length (take size l) = simp (length-drop, length-take) (omega arith) in
-    sym (take-append-drop size l) ∙ rw (take-all contentBytes (take size l) short, ← rest, ← all-zero-replicate (drop size l) z)
+    sym (take-append-drop size l) ∙ rw (take-all contentBytes (take size l) short, ← rest, ← all-zero-zeros (drop size l) z)
 
 -- a block that passes is the block that is laid down
 pub file-block-is : (k size : ℕ) (block : List ℕ) → length block ≡ fileBlockBytes → Bytes block → Passes (fileBlockTests k size block) → block ≡ fileBlockOf k (take size (contents block))
-unfolding fileBlockTests fileBlockOf sealed contents
+unfolding fileBlockTests fileBlockOf contents
 file-block-is k size block l b p =
     let (number, check) = sealed-right k block .0 (not-false _ (passes-when (passes-first p))) in
     let inner : length (take contentBytes (drop 4 block)) ≡ contentBytes = simp (length-take, length-drop) (omega arith) in

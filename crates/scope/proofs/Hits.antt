@@ -251,7 +251,7 @@ module _ (run : Run) (source : Source) where
   hits-rising x = among-rising x (cellsOf run - x)
 
 -- a block's hits are the run's, moved by the block's shift
-pub hits-shift : {run block : Run} → ValidRun run → IsBlock run block → (source : Source) (x n : ℕ) → map (λ z. z + shiftOf run block) (hitsAmong block source x n) ≡ hitsAmong run source (x + shiftOf run block) n
+hits-shift : {run block : Run} → ValidRun run → IsBlock run block → (source : Source) (x n : ℕ) → map (λ z. z + shiftOf run block) (hitsAmong block source x n) ≡ hitsAmong run source (x + shiftOf run block) n
 unfolding hitsAmong
 hits-shift v b source x zero = refl
 hits-shift {run} {block} v b source x (suc n) =

@@ -65,7 +65,7 @@ pub valid-window-passes : {window : ℕ} → ValidWindow window → Passes (wind
 unfolding windowTests
 valid-window-passes {window} v = both (both (sound (ne-eqb (window % 2) 1 (omega arith))) (sound (le-ltb _ _ (v .narrow)))) (sound (le-ltb _ _ (v .wide)))
 
-pub run-window : {run : Run} → ValidRun run → ValidWindow (run .window)
+run-window : {run : Run} → ValidRun run → ValidWindow (run .window)
 run-window v = omega arith
 
 pub valid-source : {source : Source} → Passes (sourceTests source) → ValidSource source
@@ -109,7 +109,7 @@ of-cond f false x y = refl
 pub halves : {run : Run} → ValidRun run → run .window / 2 + run .window / 2 ≡ run .window
 halves v = omega arith
 
-pub lines-few : {run : Run} → ValidRun run → linesOf run ≤ 16777217
+lines-few : {run : Run} → ValidRun run → linesOf run ≤ 16777217
 unfolding linesOf
 lines-few v = omega arith
 

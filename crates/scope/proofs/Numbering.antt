@@ -32,7 +32,7 @@ offset-distance run x =
     let h = pos (run .window / 2) in
     omega (arith, parts, sum (d -ℤ h) h, sum d (negℤ h), neg-up h, neg-dn h)
 
-pub cell-in-run : {run : Run} → ValidRun run → (x : ℕ) → x < cellsOf run → InRun run (offsetOf run x) (lineOf run x)
+cell-in-run : {run : Run} → ValidRun run → (x : ℕ) → x < cellsOf run → InRun run (offsetOf run x) (lineOf run x)
 unfolding cellsOf linesOf lineOf
 cell-in-run {run} v x h =
     let half = pos (run .window / 2) in

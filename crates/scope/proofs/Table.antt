@@ -1,14 +1,14 @@
 -- The tests of runs and periods say what their rows of 01's table say; and what the tests of numbers say. Assumes nothing.
 use Prim.Native.Nat.{ℕ, _%_, _≤_, _<_}
 use mathlib.Core.Path.{_≡_, ap}
-use mathlib.Core.Logic.{_↔_, _≢_}
+use mathlib.Core.Logic.{_↔_, _⊎_, _≢_}
 use mathlib.Core.Bool.{true, not}
 use mathlib.Core.List.{[], _∷_}
 use lib.Dec.{ltb, leb, eqb}
 use borrow.Author.Tests.{ltb-true, lt-ltb, leb-true, le-leb, eqb-true, eq-eqb, eqb-false, ne-eqb, not-true}
 use Rattle.scope.specs.declared.Run.{Run}
 use Rattle.scope.specs.Refusal.{number, windowTests, lineTests, runTests, periodTests}
-use Rattle.scope.specs.Table.{_given_, BadWindow, BadLines, BadPeriod, runTable}
+use Rattle.scope.specs.Table.{_given_, BadWindow, BadPeriod, runTable}
 use Rattle.scope.proofs.Rendered.{Renders, _next_, one, either}
 
 -- ---- the tests of numbers
@@ -31,7 +31,7 @@ pub window-renders : (window : ℕ) → Renders (windowTests window) (1 given Ba
 unfolding windowTests number
 window-renders window = either (either (one (equal (window % 2) 1)) (one (below window 2))) (one (below 4096 window))
 
-lines-renders : (first last : ℕ) → Renders (lineTests first last) (2 given BadLines first last ∷ [])
+lines-renders : (first last : ℕ) → Renders (lineTests first last) (2 given (((first < 1) ⊎ (last < first)) ⊎ (16777216 < last)) ∷ [])
 unfolding lineTests number
 lines-renders first last = either (either (one (below first 1)) (one (below last first))) (one (below 16777216 last))
 

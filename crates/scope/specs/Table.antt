@@ -35,17 +35,14 @@ pub record Tells (Table : ℕ → Type 0) (refusal : ℕ) : Type 0 where
 abbrev pub BadWindow : ℕ → Type 0
 BadWindow window = ((window % 2 ≡ 1) ⊎ (window < 2)) ⊎ (4096 < window)
 
--- "2: a line limit broken": "first ≥ 1, last ≥ first, last ≤ 16,777,216".
-abbrev pub BadLines : ℕ → ℕ → Type 0
-BadLines first last = ((first < 1) ⊎ (last < first)) ⊎ (16777216 < last)
-
 -- "4: period 0 or above 2,147,483,647".
 abbrev pub BadPeriod : ℕ → Type 0
 BadPeriod period = (period ≡ 0) ⊎ (2147483647 < period)
 
--- "1, 2, 3": the rows that every call with a run begins with. "3: interval 0".
+-- "1, 2, 3": the rows that every call with a run begins with. "2: a line limit broken": "first ≥ 1, last ≥ first, last ≤
+-- 16,777,216". "3: interval 0".
 abbrev pub runTable : Run → List Row
 runTable run =
     1 given BadWindow (run .window) ∷
-    2 given BadLines (run .first) (run .last) ∷
+    2 given (((run .first < 1) ⊎ (run .last < run .first)) ⊎ (16777216 < run .last)) ∷
     3 given (run .interval ≡ 0) ∷ []

@@ -65,7 +65,7 @@ pub arrive : (run : Run) (source : Source) {d j Y e : ℕ} → Points run source
 arrive run source {d} {Y = Y} {e} o g = on-go Y e o .1 (go-mod _ _ d Y e .1 g)
 
 -- the lines of the run are those of its cells
-pub line-inside : {run : Run} (k e : ℕ) → ValidRun run → k * run .window + e < cellsOf run → run .first + k ≤ run .last
+line-inside : {run : Run} (k e : ℕ) → ValidRun run → k * run .window + e < cellsOf run → run .first + k ≤ run .last
 unfolding cellsOf linesOf
 line-inside {run} k e v h =
     ⊎-elim (λ past. absurd (let few : suc (run .last) - run .first ≤ k = omega (arith, v .ordered) in omega (arith, mul-le-mul-right (run .window) few))) (λ in′. in′) (split (run .last) (run .first + k))
@@ -75,7 +75,7 @@ unfolding cellsOf linesOf
 inside-cells {run} k v h l = let more : suc k ≤ suc (run .last) - run .first = omega arith in omega (arith, mul-le-mul-right (run .window) more)
 
 -- the cells of whole lines
-pub lines-cells : {run : Run} {j : ℕ} → ValidRun run → j ≤ run .last + 1 → (j - run .first) * run .window ≤ cellsOf run
+lines-cells : {run : Run} {j : ℕ} → ValidRun run → j ≤ run .last + 1 → (j - run .first) * run .window ≤ cellsOf run
 unfolding cellsOf linesOf
 lines-cells {run} {j} v l = let few : j - run .first ≤ suc (run .last) - run .first = omega arith in omega (arith, mul-le-mul-right (run .window) few)
 
@@ -88,7 +88,7 @@ module _ {run : Run} (v : ValidRun run) (source : Source) where
       miss-point run source z (λ o. f (z / run .window) (z % run .window) (mod-lt z (omega (arith, v .narrow))) (div-add-mod' z (run .window)) o)
 
   -- there is none
-  pub first-none : {x : ℕ} → x ≤ cellsOf run → ((k e : ℕ) → e < run .window → x ≤ k * run .window + e → run .first + k ≤ run .last → Points run source e (run .first + k) → ⊥) → FirstFrom run source x (cellsOf run)
+  first-none : {x : ℕ} → x ≤ cellsOf run → ((k e : ℕ) → e < run .window → x ≤ k * run .window + e → run .first + k ≤ run .last → Points run source e (run .first + k) → ⊥) → FirstFrom run source x (cellsOf run)
   first-none {x} le f = record {
     from = le;
     to = omega arith;
@@ -97,7 +97,7 @@ module _ {run : Run} (v : ValidRun run) (source : Source) where
   }
 
   -- it is the cell at distance d, k lines after the first
-  pub first-at : (k : ℕ) {x d : ℕ} → d < run .window → x ≤ k * run .window + d → run .first + k ≤ run .last → Points run source d (run .first + k) → ((l e : ℕ) → e < run .window → x ≤ l * run .window + e → l * run .window + e < k * run .window + d → Points run source e (run .first + l) → ⊥) → FirstFrom run source x (k * run .window + d)
+  first-at : (k : ℕ) {x d : ℕ} → d < run .window → x ≤ k * run .window + d → run .first + k ≤ run .last → Points run source d (run .first + k) → ((l e : ℕ) → e < run .window → x ≤ l * run .window + e → l * run .window + e < k * run .window + d → Points run source e (run .first + l) → ⊥) → FirstFrom run source x (k * run .window + d)
   first-at k {x} {d} h le in′ o f =
       let small = inside-cells k v h in′ in
       record {
@@ -108,7 +108,7 @@ module _ {run : Run} (v : ValidRun run) (source : Source) where
       }
 
   -- from a cell on, none being hit before the other
-  pub first-over : {x y z : ℕ} → x ≤ y → ((w : ℕ) → x ≤ w → w < y → isHit run source w ≡ false) → FirstFrom run source y z → FirstFrom run source x z
+  first-over : {x y z : ℕ} → x ≤ y → ((w : ℕ) → x ≤ w → w < y → isHit run source w ≡ false) → FirstFrom run source y z → FirstFrom run source x z
   first-over {x} {y} {z} le f h = record {
     from = omega (arith, h .from);
     to = h .to;
@@ -127,10 +127,10 @@ module _ {run : Run} (v : ValidRun run) (source : Source) where
         let l : at .line ≤ run .first + k = omega arith in
         (l, way run source l o o′)
 
-    pub line-none : (at .line - run .first) * run .window ≤ cellsOf run → Sought (source .period) (run .interval % source .period) (run .window) (run .last) at Nothing → FirstFrom run source ((at .line - run .first) * run .window) (cellsOf run)
+    line-none : (at .line - run .first) * run .window ≤ cellsOf run → Sought (source .period) (run .interval % source .period) (run .window) (run .last) at Nothing → FirstFrom run source ((at .line - run .first) * run .window) (cellsOf run)
     line-none le s = first-none le (λ k e h le′ in′ o′. let w = seen k e h le′ o′ in omega (arith, w .0, s (run .first + k - at .line) e h (w .1)))
 
-    pub line-found : {to : Point} → Enters (source .period) (run .interval % source .period) (run .window) (run .last) at to → FirstFrom run source ((at .line - run .first) * run .window) ((to .line - run .first) * run .window + to .distance)
+    line-found : {to : Point} → Enters (source .period) (run .interval % source .period) (run .window) (run .last) at to → FirstFrom run source ((at .line - run .first) * run .window) ((to .line - run .first) * run .window + to .distance)
     line-found {to} s =
         let n = s .nearer in
         let m = s .moves in
@@ -157,7 +157,7 @@ module _ {run : Run} (v : ValidRun run) (source : Source) where
         let same : l ≡ x / run .window = omega (arith, rows-le {k = x / run .window} {l = l} h (omega arith)) in
         (same, row .least e (omega (arith, ap (λ y. y * run .window) same)) (subst (λ y. Points run source e (run .first + y)) same o))
 
-    pub row-found : x < cellsOf run → d < run .window → FirstFrom run source x (x / run .window * run .window + d)
+    row-found : x < cellsOf run → d < run .window → FirstFrom run source x (x / run .window * run .window + d)
     row-found h l =
         let parts = div-add-mod' x (run .window) in
         let right = row .from in
@@ -165,7 +165,7 @@ module _ {run : Run} (v : ValidRun run) (source : Source) where
         let at = rest k e h′ le (rows-le {k = k} {l = x / run .window} l (omega arith)) o in
         omega (arith, ap (λ y. y * run .window) (at .0), at .1))
 
-    pub row-none : run .window ≤ d → (w : ℕ) → x ≤ w → w < (x / run .window + 1) * run .window → isHit run source w ≡ false
+    row-none : run .window ≤ d → (w : ℕ) → x ≤ w → w < (x / run .window + 1) * run .window → isHit run source w ≡ false
     row-none h w a b =
         let some = v .narrow in
         missed w (λ k e h′ is o.
@@ -175,7 +175,7 @@ module _ {run : Run} (v : ValidRun run) (source : Source) where
 -- ---- the whole search
 
 -- the first two vectors of the division sequence
-abbrev pub begin : Run → Source → Turn
+abbrev begin : Run → Source → Turn
 begin run source = firstTwo (source .period) (run .interval % source .period)
 
 pub begin-divides : (run : Run) {source : Source} → ValidSource source → Successive (source .period) (run .interval % source .period) (begin run source .before) (begin run source .last)
@@ -183,7 +183,7 @@ begin-divides run s = first-two (mod-lt (run .interval) (s .ticks))
 
 pub begin-seeking : {run : Run} {source : Source} {at : Point} → ValidRun run → ValidSource source → at .distance < source .period → Seeking (begin run source .before) (begin run source .last) at (run .window) (run .last)
 begin-seeking {run} {source} v s low = record {
-  division = record { p = _; r = _; is = begin-divides run s; fits = s .fits };
+  division = record { p = _; r = _; at = begin-divides run s; small = s .fits };
   below = rw (size-of (start-left (source .period))) (omega arith);
   short = v .ends;
 }
@@ -217,7 +217,7 @@ module _ {run : Run} (v : ValidRun run) {x : ℕ} (inside : x < cellsOf run) whe
   own-line = line-inside (x / run .window) (x % run .window) v (omega (arith, div-add-mod' x (run .window)))
 
   -- its own line, as a cell number
-  pub own-row : x - x % run .window ≡ x / run .window * run .window
+  own-row : x - x % run .window ≡ x / run .window * run .window
   own-row = omega (arith, div-add-mod' x (run .window))
 
   module _ {source : Source} (s : ValidSource source) {d : ℕ} (is : d ≡ (run .interval * (run .first + x / run .window) + origin run source) % source .period) where

@@ -6,40 +6,26 @@ use mathlib.Core.Path.{_≡_, refl, ap, subst}
 use mathlib.Core.Bool.{true, false}
 use lib.IntN.{pos, natAbs}
 use lib.Signed.{ltZ}
-use mir.Syntax.{w64}
-use mir.Val.{SFits}
 use Rattle.lattice.proofs.Multiples.{Above}
 use Rattle.lattice.proofs.Differences.{Go, go-on}
 use Rattle.lattice.proofs.Stage.{Side, left, right, Stage, ended, bounds}
 use Rattle.lattice.proofs.First.{first-here, first-after}
 use Rattle.lattice.proofs.Transitions.{last-never, jump-right, jump-left, turn-right, turn-left, moved}
 use Rattle.vectors.specs.declared.Vector.{Vector}
-use Rattle.vectors.specs.InnerSequence.{nextOf, Successive, Reaches}
-use Rattle.vectors.proofs.Sequence.{onward, staged, side-left, side-right, held-before, held-last}
+use Rattle.vectors.specs.InnerSequence.{nextOf, Successive, Division}
+use Rattle.vectors.proofs.Sequence.{later, staged, side-left, side-right}
 use Rattle.search.specs.declared.Point.{Point}
 use Rattle.search.specs.declared.Found.{Found}
 use Rattle.search.specs.declared.Found.the-variants.{At, Nothing}
-use Rattle.search.specs.InnerSearch.{Division, Approaching, Nearer, Seeking, Sought}
+use Rattle.search.specs.InnerSearch.{Approaching, Nearer, Seeking, Sought}
 
--- ---- the next vector
-
--- there is one
-pub goes : {u v : Vector} → Division u v → 0 < natAbs (v .offset) → Reaches u 0 v
-goes d some = let fits = d .fits in record { p = d .p; r = d .r; at = d .is; small = omega arith; some = some; reach = omega arith }
+-- ---- a point nearer to the window
 
 pub whole-few : {u v : Vector} → Division u v → natAbs (u .offset) ≤ 2147483647
 whole-few d =
-    let f = d .fits in
-    let b = bounds (staged (d .is)) in
+    let f = d .small in
+    let b = bounds (staged (d .at)) in
     omega arith
-
-pub fits-before : {u v : Vector} → Division u v → SFits w64 (u .offset)
-fits-before d = let fits = d .fits in held-before (d .is) (omega arith)
-
-pub fits-last : {u v : Vector} → Division u v → SFits w64 (v .offset)
-fits-last d = let fits = d .fits in held-last (d .is) (omega arith)
-
--- ---- a point nearer to the window
 
 -- a move of t steps of v, and perhaps one of u, keeps to small numbers
 pub record Turned (u v : Vector) (t : ℕ) : Type 0 where
@@ -47,11 +33,11 @@ pub record Turned (u v : Vector) (t : ℕ) : Type 0 where
   pub lines : t * v .line + u .line ≤ 2147483647
   pub whole : natAbs (u .offset) ≤ 2147483647
 
-pub turned : {u v : Vector} {t : ℕ} → Division u v → 0 < natAbs (v .offset) → t * natAbs (v .offset) < natAbs (u .offset) → Turned u v t
+turned : {u v : Vector} {t : ℕ} → Division u v → 0 < natAbs (v .offset) → t * natAbs (v .offset) < natAbs (u .offset) → Turned u v t
 turned d some h =
-    let f = d .fits in
-    let m = moved (staged (d .is)) some h in
-    let b = bounds (staged (d .is)) in
+    let f = d .small in
+    let m = moved (staged (d .at)) some h in
+    let b = bounds (staged (d .at)) in
     record { distance = omega arith; lines = omega arith; whole = omega arith }
 
 module _ {u v : Vector} {at : Point} {window : ℕ} (h : Approaching u v at window) where
@@ -129,8 +115,8 @@ pub seeking : {u v : Vector} {at to : Point} {window last : ℕ} → Seeking u v
 seeking h some near =
     let d = h .division in
     record {
-      division = record { p = d .p; r = d .r; is = onward (d .is) some; fits = d .fits };
-      below = omega (arith, near (d .p) (d .r) (d .is) .below);
+      division = later d some;
+      below = omega (arith, near (d .p) (d .r) (d .at) .below);
       short = h .short;
     }
 

@@ -11,17 +11,10 @@ use Rattle.scope.specs.Run.{cellsOf}
 use Rattle.scope.specs.Hit.{isHit}
 use Rattle.scope.proofs.Hits.{origin}
 use Rattle.vectors.specs.declared.Vector.{Vector}
-use Rattle.vectors.specs.InnerSequence.{Successive}
+use Rattle.vectors.specs.InnerSequence.{Division}
 use Rattle.search.specs.declared.Point.{Point}
 use Rattle.search.specs.declared.Found.{Found}
 use Rattle.search.specs.declared.Found.the-variants.{At, Nothing}
-
--- u and v are successive vectors of the division sequence of some period within the limits.
-pub record Division (u v : Vector) : Type 0 where
-  pub p : ℕ
-  pub r : ℕ
-  pub is : Successive p r u v
-  pub fits : p ≤ 2147483647
 
 -- A point outside the window that u and v can bring nearer, since v's offset is not 0.
 pub record Approaching (u v : Vector) (at : Point) (window : ℕ) : Type 0 where

@@ -1,19 +1,19 @@
 -- A natural number p divides an integer z: p ∣ natAbs z. Told of a difference by multiples of p and by remainders.
 -- Every law holds for p = 0 too: 0 divides 0 alone, and n % 0 is n. Assumes nothing.
-use mathlib.Core.Path.{_≡_, refl, sym, ap, _∙_}
+use mathlib.Core.Path.{_≡_, sym, ap, _∙_}
 use mathlib.Core.Bool.{true}
 use mathlib.Core.Logic.{_↔_}
-use Prim.Native.Nat.{ℕ, zero, suc, _+_, _*_, _/_, _%_, _∣_}
+use Prim.Native.Nat.{ℕ, suc, _+_, _*_, _/_, _%_, _∣_}
 use native.Mathlib.Omega.{arith}
-use native.Mathlib.Nat.{dvd-mul-left, dvd-mul-left-of-dvd, dvd-add-iff-left, dvd-iff-mod-eq-zero, div-mul-cancel, mod-add-div', add-mul-mod-self-right}
+use native.Mathlib.Nat.{dvd-mul-left, dvd-add-iff-left, dvd-iff-mod-eq-zero, div-mul-cancel, mod-add-div', add-mul-mod-self-right}
 use lib.Dec.{eqb}
-use lib.IntN.{ℤ, pos, negsuc, negℤ, natAbs, _+ℤ_, _-ℤ_, _*ℤ_}
+use lib.IntN.{ℤ, pos, negsuc, negℤ, natAbs, _+ℤ_, _-ℤ_}
 use borrow.Author.Tests.{eqb-true, eq-eqb}
 use Rattle.signed.proofs.Parts.{up, dn, parts, sum, neg-up, neg-dn}
 use Rattle.signed.proofs.Difference.{diff, diff-parts}
 
 -- multiples of p lead from a and from b to one number
-abbrev pub Multiples : ℕ → ℕ → ℕ → Type 0
+abbrev Multiples : ℕ → ℕ → ℕ → Type 0
 Multiples p a b = (x : ℕ) × (y : ℕ) × (a + x * p ≡ b + y * p)
 
 -- p divides z exactly if multiples of p lead from its parts to one number
@@ -29,7 +29,7 @@ of-parts : (p : ℕ) (z : ℤ) → Multiples p (up z) (dn z) → p ∣ natAbs z
 of-parts p (pos n) m = left-over p n (m .0) (m .1) (omega arith)
 of-parts p (negsuc n) m = left-over p (suc n) (m .1) (m .0) (omega arith)
 
-pub divides-multiples : (p a b : ℕ) → (p ∣ natAbs (diff a b)) ↔ Multiples p a b
+divides-multiples : (p a b : ℕ) → (p ∣ natAbs (diff a b)) ↔ Multiples p a b
 divides-multiples p a b = (
   λ h. let m = to-parts p (diff a b) h in (m .0, m .1, omega (arith, diff-parts a b)),
   λ m. of-parts p (diff a b) (m .0, m .1, omega (arith, diff-parts a b)),
@@ -41,7 +41,7 @@ multiples-mod p a b = (
   λ e. (b / p, a / p, omega (arith, mod-add-div' a p, mod-add-div' b p)),
 )
 
-pub divides-mod : (p a b : ℕ) → (p ∣ natAbs (diff a b)) ↔ (a % p ≡ b % p)
+divides-mod : (p a b : ℕ) → (p ∣ natAbs (diff a b)) ↔ (a % p ≡ b % p)
 divides-mod p a b =
     (λ h. multiples-mod p a b .0 (divides-multiples p a b .0 h), λ e. divides-multiples p a b .1 (multiples-mod p a b .1 e))
 
@@ -56,29 +56,3 @@ divides-apart p a b x y e = rw same (divides-mod p a b)
   where
     same : x -ℤ y ≡ diff a b
     same = omega (arith, parts, diff-parts a b, sum x (negℤ y), neg-up y, neg-dn y, sum x (pos b), sum y (pos a))
-
--- ---- what p divides is closed under negation, sums and multiples
-
-pub divides-neg : (p : ℕ) (z : ℤ) → p ∣ natAbs z → p ∣ natAbs (negℤ z)
-divides-neg p (pos zero) h = h
-divides-neg p (pos (suc n)) h = h
-divides-neg p (negsuc n) h = h
-
-pub divides-sum : (p : ℕ) (x y : ℤ) → p ∣ natAbs x → p ∣ natAbs y → p ∣ natAbs (x +ℤ y)
-divides-sum p x y h k =
-    let m = to-parts p x h in
-    let n = to-parts p y k in
-    of-parts p (x +ℤ y) (m .0 + n .0, m .1 + n .1, omega (arith, sum x y))
-
-abs-neg : (n : ℕ) → natAbs (negℤ (pos n)) ≡ n
-abs-neg zero = refl
-abs-neg (suc n) = refl
-
-pub abs-product : (x y : ℤ) → natAbs (x *ℤ y) ≡ natAbs x * natAbs y
-abs-product (pos a) (pos b) = refl
-abs-product (pos a) (negsuc b) = abs-neg (a * suc b)
-abs-product (negsuc a) (pos b) = abs-neg (suc a * b)
-abs-product (negsuc a) (negsuc b) = refl
-
-pub divides-product : (p : ℕ) (k z : ℤ) → p ∣ natAbs z → p ∣ natAbs (k *ℤ z)
-divides-product p k z h = rw (abs-product k z) (dvd-mul-left-of-dvd p h (natAbs k))

@@ -123,13 +123,3 @@ parts-fit (negsuc n) h = record { sfits = omega arith }
 
 -- for omega's list: reads and proves ≤ℤ, <ℤ, ≡, their tests, and SFits w64
 pub ruleset parts = (le-parts, parts-le, lt-parts, parts-lt, parts-same, same-parts, ltZ-parts, not-ltZ-parts, fits-parts, parts-fit)
-
--- three of its uses
-between : (a b c : ℤ) → a ≤ℤ b → b <ℤ c → a <ℤ c
-between a b c h k = omega (arith, parts)
-
-sum-fits : (a b : ℤ) → a ≤ℤ pos 100 → negsuc 100 <ℤ a → pos 0 ≤ℤ b → b <ℤ pos 4096 → SFits w64 (a +ℤ b)
-sum-fits a b h i j k = omega (arith, parts, sum a b, apart a, apart b, apart (a +ℤ b))
-
-add-right : (a b c : ℤ) → a +ℤ c ≡ b +ℤ c → a ≡ b
-add-right a b c h = omega (arith, parts, sum a c, sum b c)

@@ -26,7 +26,7 @@ negative : (n : ℕ) → negℤ (pos n) ≡ diff 0 n
 negative n = ap negℤ (pos-diff n) ∙ diff-neg n 0
 
 -- they lie in the lattice exactly if their magnitudes say so
-pub left-lies : (p r A β : ℕ) → InLattice p r (leftward A β) ↔ Lft p r A β
+left-lies : (p r A β : ℕ) → InLattice p r (leftward A β) ↔ Lft p r A β
 unfolding InLattice
 left-lies p r A β =
     let e : pos (r * β) +ℤ pos 0 ≡ negℤ (pos A) +ℤ pos (A + r * β) = simp (negative, differences) (omega arith) in
@@ -34,7 +34,7 @@ left-lies p r A β =
     let c = cong-iff-mod p (A + r * β) 0 in
     (λ h. record { cong = c .1 (d .0 h) }, λ h. d .1 (c .0 (h .cong)))
 
-pub right-lies : (p r C δ : ℕ) → InLattice p r (rightward C δ) ↔ Rgt p r C δ
+right-lies : (p r C δ : ℕ) → InLattice p r (rightward C δ) ↔ Rgt p r C δ
 unfolding InLattice
 right-lies p r C δ =
     let e : pos (r * δ) +ℤ pos C ≡ pos C +ℤ pos (r * δ) = simp differences (omega arith) in
@@ -43,7 +43,7 @@ right-lies p r C δ =
     (λ h. record { cong = c .1 (sym (d .0 h)) }, λ h. d .1 (sym (c .0 (h .cong))))
 
 -- an integer that is not above 0, or not below it, is its magnitude with a sign
-pub nonpos : (z : ℤ) → z ≤ℤ pos 0 → z ≡ negℤ (pos (natAbs z))
+nonpos : (z : ℤ) → z ≤ℤ pos 0 → z ≡ negℤ (pos (natAbs z))
 nonpos z h = omega (arith, parts, abs-parts z, apart z, neg-up (pos (natAbs z)), neg-dn (pos (natAbs z)))
 
 pub nonneg : (z : ℤ) → pos 0 ≤ℤ z → z ≡ pos (natAbs z)
@@ -68,7 +68,7 @@ from-magnitudes {p} {r} {I} {A} {β} {C} {δ} h = record {
 }
 
 -- and the other way round
-pub to-magnitudes : {p r I A β C δ : ℕ} → IsPair p r I (leftward A β) (rightward C δ) → Pair p r I A β C δ
+to-magnitudes : {p r I A β C δ : ℕ} → IsPair p r I (leftward A β) (rightward C δ) → Pair p r I A β C δ
 to-magnitudes {p} {r} {I} {A} {β} {C} {δ} h = record {
   basis = record {
     lies-left = left-lies p r A β .0 (h .left-in);

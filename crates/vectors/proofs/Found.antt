@@ -35,9 +35,11 @@ first-two {p} {r} h = record {
 }
 
 pub begin : {p r I : ℕ} → Askable p r I → Ready I (leftward p 0) (rightward r 1)
-begin {p} {r} {I} h =
-    let small = h .small in
-    record { p = p; r = r; at = first-two (h .remainder); small = omega arith; width = h .some; past = rw (size-of (start-left p)) (h .window) }
+begin {p} h = record {
+  division = record { p = _; r = _; at = first-two (h .remainder); small = h .small };
+  width = h .some;
+  past = rw (size-of (start-left p)) (h .window);
+}
 
 -- a vector is known by its moves
 is-left : {n c : ℕ} {v : Vector} → Moves left n c v → v ≡ leftward n c
@@ -88,10 +90,7 @@ pair-right {p} {r} {I} {t} h some above = subst (λ s. Ordered s p r I (t .last)
 -- past the test for 0 there is a partner to look for
 pub partner-left : {p r I : ℕ} {t : Turn} → Stopped p r I t → p ≤ 2147483647 → (t .last .offset ≡ pos 0 → ⊥) → Open I (t .before) (t .last)
 partner-left {p} {r} {I} {t} h small other = record {
-  p = p;
-  r = r;
-  at = h .at;
-  small = omega arith;
+  division = record { p = p; r = r; at = h .at; small = small };
   within = h .within;
   past = h .past;
   some = some-size (t .last .offset) other;

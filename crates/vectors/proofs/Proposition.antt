@@ -13,7 +13,7 @@ use Rattle.signed.proofs.Divides.{divides-apart}
 use Rattle.lattice.specs.Gcd.{IsGcd}
 use Rattle.lattice.proofs.Congruence.{Cong, cong-iff-mod}
 use Rattle.lattice.proofs.Differences.{Go}
-use Rattle.lattice.proofs.Next.{single-place, period}
+use Rattle.lattice.proofs.Next.{single-distance, period}
 use Rattle.lattice.proofs.Pair.{extent}
 use Rattle.lattice.proofs.Span.{combined}
 use Rattle.lattice.proofs.Unique.{pair-steps}
@@ -56,10 +56,10 @@ second-half {p} {r} {I} {left} {right} h v lies low high =
     let w = extent (m .pair) in
     let s = pair-steps (m .pair) (omega (arith, parts, apart i, neg-up (pos I), neg-dn (pos I))) (omega (arith, parts, apart i)) way in
     subst₂ (λ a b. Sum a b v) (sym (m .left-is)) (sym (m .right-is))
-    (record { k = s .lefts; l = s .rights; offset = signed-sum (s .lefts) (s .rights) (m .A) (m .C) i (s .place); line = s .lines })
+    (record { k = s .lefts; l = s .rights; offset = signed-sum (s .lefts) (s .rights) (m .A) (m .C) i (s .distance); line = s .lines })
 
-whole-place : (k k′ l l′ A C : ℕ) {i : ℤ} → Is i → up i + k * A + l′ * C ≡ dn i + k′ * A + l * C → i ≡ (diff k k′ *ℤ negℤ (pos A)) +ℤ (diff l l′ *ℤ pos C)
-whole-place k k′ l l′ A C (of a b) e = simp differences (omega (arith, diff-parts a b))
+whole-distance : (k k′ l l′ A C : ℕ) {i : ℤ} → Is i → up i + k * A + l′ * C ≡ dn i + k′ * A + l * C → i ≡ (diff k k′ *ℤ negℤ (pos A)) +ℤ (diff l l′ *ℤ pos C)
+whole-distance k k′ l l′ A C (of a b) e = simp differences (omega (arith, diff-parts a b))
 
 whole-line : (k k′ l l′ β δ : ℕ) {j : ℤ} → Is j → up j + k′ * β + l′ * δ ≡ dn j + k * β + l * δ → j ≡ (diff k k′ *ℤ pos β) +ℤ (diff l l′ *ℤ pos δ)
 whole-line k k′ l l′ β δ (of a b) e = simp differences (omega (arith, diff-parts a b))
@@ -78,7 +78,7 @@ pair-is-basis {p} {r} {I} {left} {right} h i j lies =
     (record {
       k = diff (s .k) (s .k′);
       l = diff (s .l) (s .l′);
-      offset = whole-place (s .k) (s .k′) (s .l) (s .l′) (m .A) (m .C) (int i) (s .place);
+      offset = whole-distance (s .k) (s .k′) (s .l) (s .l′) (m .A) (m .C) (int i) (s .distance);
       line = whole-line (s .k) (s .k′) (s .l) (s .l′) (left .line) (right .line) (int j) (s .lines);
     })
 
@@ -102,7 +102,7 @@ only-zero {p} {r} {I} {g} some is wide v low high = (to, from)
     to : InLattice p r v → (v .offset ≡ pos 0) × (p / g ∣ v .line)
     to lies =
         let way = lies-go p r v (I / 2) (up (v .offset +ℤ pos (I / 2))) at .0 lies in
-        let stays : up (v .offset +ℤ pos (I / 2)) ≡ I / 2 = single-place is wide middle within way in
+        let stays : up (v .offset +ℤ pos (I / 2)) ≡ I / 2 = single-distance is wide middle within way in
         (omega (arith, parts, at, sum (v .offset) (pos (I / 2))), lines .0 (subst (λ x. Go p r (I / 2) (v .line) x) stays way))
 
     from : (v .offset ≡ pos 0) × (p / g ∣ v .line) → InLattice p r v

@@ -15,7 +15,7 @@ use Rattle.lattice.proofs.Multiples.{rest}
 use Rattle.lattice.proofs.Stage.{Side, left, right, other, Stage, bounds, slide-bound}
 use Rattle.lattice.proofs.Stage as Stage
 use Rattle.vectors.specs.declared.Vector.{Vector}
-use Rattle.vectors.specs.InnerSequence.{plusTimes, nextOf, alongside, toward, Moves, Successive, Reaches, Ready, Open}
+use Rattle.vectors.specs.InnerSequence.{plusTimes, nextOf, alongside, toward, Moves, Successive, Division, Reaches, Ready, Open}
 
 abs-toward : (s : Side) (n : ℕ) → natAbs (toward s n) ≡ n
 abs-toward left zero = refl
@@ -27,15 +27,9 @@ pub size-of : {s : Side} {n c : ℕ} {v : Vector} → Moves s n c v → natAbs (
 size-of {s} {n} h = ap natAbs (h .offset) ∙ abs-toward s n
 
 -- a step to the other side, q times m, leaves k of n
-leftward : (n m q k : ℕ) → n ≡ q * m + k → pos n +ℤ pos q *ℤ negℤ (pos m) ≡ pos k
-leftward n m q k e = simp differences (omega arith)
-
-rightward : (n m q k : ℕ) → n ≡ q * m + k → negℤ (pos n) +ℤ pos q *ℤ pos m ≡ negℤ (pos k)
-rightward n m q k e = simp differences (omega arith)
-
 slid : (s : Side) (n m q k : ℕ) → n ≡ q * m + k → toward (other s) n +ℤ pos q *ℤ toward s m ≡ toward (other s) k
-slid left n m q k e = leftward n m q k e
-slid right n m q k e = rightward n m q k e
+slid left n m q k e = simp differences (omega arith)
+slid right n m q k e = simp differences (omega arith)
 
 -- u plus q times v moves what is left of n
 pub moved : {p r : ℕ} {u v : Vector} (h : Successive p r u v) (q k : ℕ) → h .n ≡ q * h .m + k → Moves (other (h .side)) k (h .b + q * h .c) (plusTimes u q v)
@@ -126,17 +120,17 @@ pub record Turned (n : ℕ) : Type 0 where
 pub turned : {n : ℕ} → n < 2 ^ 63 → Turned n
 turned {n} h = record { held = fits-toward right n h; turned = omega (arith, parts, sum (pos 0) (negℤ (pos n))); fits = fits-toward left n h }
 
-held : {s : Side} {n c p : ℕ} {v : Vector} → Moves s n c v → n ≤ p → p < 2 ^ 31 → SFits w64 (v .offset)
+held : {s : Side} {n c p : ℕ} {v : Vector} → Moves s n c v → n ≤ p → p ≤ 2147483647 → SFits w64 (v .offset)
 held {s} {n} h k small = rw (h .offset) (fits-toward s n (omega arith))
 
-pub held-last : {p r : ℕ} {u v : Vector} → Successive p r u v → p < 2 ^ 31 → SFits w64 (v .offset)
-held-last h small =
-    let b = bounds (h .stage) in
-    let falls = h .stage .falls in
-    held (h .last) (omega arith) small
+pub held-last : {u v : Vector} → Division u v → SFits w64 (v .offset)
+held-last d =
+    let b = bounds (d .at .stage) in
+    let falls = d .at .stage .falls in
+    held (d .at .last) (omega arith) (d .small)
 
-pub held-before : {p r : ℕ} {u v : Vector} → Successive p r u v → p < 2 ^ 31 → SFits w64 (u .offset)
-held-before h small = held (h .before) (bounds (h .stage) .distance) small
+pub held-before : {u v : Vector} → Division u v → SFits w64 (u .offset)
+held-before d = held (d .at .before) (bounds (d .at .stage) .distance) (d .small)
 
 pub record Fitting (u : Vector) (q : ℕ) (v : Vector) : Type 0 where
   pub before : SFits w64 (u .offset)
@@ -154,39 +148,47 @@ many {q} {m = zero} h = absurd (omega arith)
 
 pub fitting : {u v : Vector} {q : ℕ} → Reaches u q v → Fitting u q v
 fitting {u} {v} {q} h =
-    let here = bounds (h .at .stage) in
-    let small = h .small in
-    let m-some = some (h .at) (h .some) in
-    let reach : q * h .at .m ≤ h .at .n = rw (size-of (h .at .before), size-of (h .at .last)) at (h .reach) in
-    let e : h .at .n ≡ q * h .at .m + (h .at .n - q * h .at .m) = omega arith in
-    let lines = slide-bound q (h .at .n - q * h .at .m) (h .at .stage) m-some e in
+    let d = h .division in
+    let s = d .at in
+    let here = bounds (s .stage) in
+    let small = d .small in
+    let m-some = some s (h .some) in
+    let reach : q * s .m ≤ s .n = rw (size-of (s .before), size-of (s .last)) at (h .reach) in
+    let e : s .n ≡ q * s .m + (s .n - q * s .m) = omega arith in
+    let lines = slide-bound q (s .n - q * s .m) (s .stage) m-some e in
     let few = many {q = q} m-some in
     record {
-      before = held-before (h .at) small;
-      last = held-last (h .at) small;
-      next = held (moved (h .at) q (h .at .n - q * h .at .m) e) (omega arith) small;
+      before = held-before d;
+      last = held-last d;
+      next = held (moved s q (s .n - q * s .m) e) (omega arith) small;
       divisor = h .some;
       times = omega arith;
       reach = h .reach;
-      size = rw (size-of (h .at .before)) (omega arith);
-      lines = rw (h .at .before .line, h .at .last .line) (omega arith);
+      size = rw (size-of (s .before)) (omega arith);
+      lines = rw (s .before .line, s .last .line) (omega arith);
     }
 
 -- ---- what may follow
 
+-- there is a next vector
+pub goes : {u v : Vector} → Division u v → 0 < natAbs (v .offset) → Reaches u 0 v
+goes d some = record { division = d; some = some; reach = omega arith }
+
+-- and it goes on the division
+pub later : {u v : Vector} → Division u v → 0 < natAbs (v .offset) → Division v (nextOf u v)
+later d some = record { p = d .p; r = d .r; at = onward (d .at) some; small = d .small }
+
 -- the quotient of the sizes reaches no further
 pub reaches-next : {u v : Vector} → Reaches u 0 v → Reaches u (natAbs (u .offset) / natAbs (v .offset)) v
-reaches-next {u} {v} h = record { p = h .p; r = h .r; at = h .at; small = h .small; some = h .some; reach = div-mul-le-self (natAbs (u .offset)) (natAbs (v .offset)) }
+reaches-next {u} {v} h = record { division = h .division; some = h .some; reach = div-mul-le-self (natAbs (u .offset)) (natAbs (v .offset)) }
 
--- past the window there is a next vector
-pub goes-on : {window : ℕ} {u v : Vector} → Ready window u v → window ≤ natAbs (v .offset) → Reaches u 0 v
-goes-on {window} {u} {v} h past =
-    let width = h .width in
-    record { p = h .p; r = h .r; at = h .at; small = h .small; some = omega arith; reach = omega arith }
+-- past the window the offset is not 0
+pub some-past : {window : ℕ} {u v : Vector} → Ready window u v → window ≤ natAbs (v .offset) → 0 < natAbs (v .offset)
+some-past h past = let width = h .width in omega arith
 
--- and it may be gone on from
+-- so that the next vector may be gone on from
 pub ready : {window : ℕ} {u v : Vector} → Ready window u v → window ≤ natAbs (v .offset) → Ready window v (nextOf u v)
-ready h past = record { p = h .p; r = h .r; at = onward (h .at) (goes-on h past .some); small = h .small; width = h .width; past = past }
+ready h past = record { division = later (h .division) (some-past h past); width = h .width; past = past }
 
 -- the partner's multiple of the last vector reaches no further than the one before
 pub reaches-partner : {window : ℕ} {u v : Vector} → Open window u v → Reaches u ((natAbs (u .offset) - window) / natAbs (v .offset) + 1) v
@@ -194,4 +196,4 @@ reaches-partner {window} {u} {v} h =
     let within = h .within in
     let q = rest {n = natAbs (u .offset)} {m = natAbs (v .offset)} {W = window} (h .some) (omega arith) (h .past) in
     let e = q .sum in
-    record { p = h .p; r = h .r; at = h .at; small = h .small; some = h .some; reach = omega arith }
+    record { division = h .division; some = h .some; reach = omega arith }

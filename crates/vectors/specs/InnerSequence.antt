@@ -1,7 +1,7 @@
 -- Document 01, "The sequence of 002", two successive vectors u and v at a time: what the inner steps of
 -- `find_basis` and of the search for the first hit go by.
 use mathlib.Core.Path.{_≡_}
-use Prim.Native.Nat.{ℕ, _+_, _-_, _*_, _/_, _≤_, _<_, _^_}
+use Prim.Native.Nat.{ℕ, _+_, _-_, _*_, _/_, _≤_, _<_}
 use lib.IntN.{ℤ, pos, negsuc, negℤ, natAbs, _+ℤ_, _*ℤ_}
 use Rattle.lattice.proofs.Stage.{Side, left, right, other, Stage}
 use Rattle.vectors.specs.declared.Vector.{Vector}
@@ -54,21 +54,22 @@ pub record Successive (p r : ℕ) (u v : Vector) : Type 0 where
   pub before : Moves (other side) n b u
   pub last : Moves side m c v
 
--- They are so for some period below 2 ^ 31, and q times v reaches no further than u.
-pub record Reaches (u : Vector) (q : ℕ) (v : Vector) : Type 0 where
+-- They are so for some period within the limits.
+pub record Division (u v : Vector) : Type 0 where
   pub p : ℕ
   pub r : ℕ
   pub at : Successive p r u v
-  pub small : p < 2 ^ 31
+  pub small : p ≤ 2147483647
+
+-- And q times v, whose offset is not 0, reaches no further than u.
+pub record Reaches (u : Vector) (q : ℕ) (v : Vector) : Type 0 where
+  pub division : Division u v
   pub some : 0 < natAbs (v .offset)
   pub reach : q * natAbs (v .offset) ≤ natAbs (u .offset)
 
--- They are so for some period below 2 ^ 31, and u reaches past the window.
+-- And u reaches past the window.
 pub record Ready (window : ℕ) (u v : Vector) : Type 0 where
-  pub p : ℕ
-  pub r : ℕ
-  pub at : Successive p r u v
-  pub small : p < 2 ^ 31
+  pub division : Division u v
   pub width : 1 ≤ window
   pub past : window ≤ natAbs (u .offset)
 
@@ -82,12 +83,9 @@ pub record Stopped (p r window : ℕ) (t : Turn) : Type 0 where
 abbrev pub Divided : ℕ → Vector → Vector → Turn → Type 0
 Divided window u v t = (p r : ℕ) → Successive p r u v → Stopped p r window t
 
--- The division of some period below 2 ^ 31 was stopped at v, whose offset is not 0.
+-- The division was stopped at v, whose offset is not 0.
 pub record Open (window : ℕ) (u v : Vector) : Type 0 where
-  pub p : ℕ
-  pub r : ℕ
-  pub at : Successive p r u v
-  pub small : p < 2 ^ 31
+  pub division : Division u v
   pub within : natAbs (v .offset) < window
   pub past : window ≤ natAbs (u .offset)
   pub some : 0 < natAbs (v .offset)

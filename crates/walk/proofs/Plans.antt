@@ -27,7 +27,7 @@ use Rattle.search.specs.InnerSearch.{PointOf, Enters, Sought}
 use Rattle.search.proofs.Cells.{hit-point, point-hit, point-low, sought-cell, sought-none}
 use Rattle.walk.proofs.Walks.{first-point}
 
--- ---- the place of the first hit of a line
+-- ---- the first hit of a line
 
 module _ {run : Run} (v : ValidRun run) {source : Source} (s : ValidSource source) (cell : ℕ) where
   -- the cell of the line's first hit
@@ -39,15 +39,15 @@ module _ {run : Run} (v : ValidRun run) {source : Source} (s : ValidSource sourc
       let some = v .narrow in
       omega (arith, mod-lt cell {m = run .window} (omega arith), mod-le (cell % run .window) (source .period))
 
-  pub row-start : cell - cell % run .window + leading ≡ cell / run .window * run .window + leading
+  row-start : cell - cell % run .window + leading ≡ cell / run .window * run .window + leading
   row-start = omega (arith, div-add-mod' cell (run .window))
 
   pub begins : {offset : ℤ} → offset ≡ pos leading -ℤ pos (run .window / 2) → Begins run source cell (record { offset = offset; cell = record { 0 = cell - cell % run .window + leading } })
   unfolding offsetOf lineOf
   begins {offset} o = rw row-start (record { line = line; stands = stands })
     where
-      place : (cell / run .window * run .window + leading) % run .window ≡ leading
-      place = distance-at run (cell / run .window) leads-in
+      distance : (cell / run .window * run .window + leading) % run .window ≡ leading
+      distance = distance-at run (cell / run .window) leads-in
 
       line : (cell / run .window * run .window + leading) / run .window ≡ cell / run .window
       line = omega (arith, line-at run (cell / run .window) leads-in)
@@ -55,8 +55,8 @@ module _ {run : Run} (v : ValidRun run) {source : Source} (s : ValidSource sourc
       stands : isHit run source cell ≡ true → Stands run source (record { offset = offset; cell = record { 0 = cell / run .window * run .window + leading } })
       stands h = record {
         hit = hit-point run source (cell / run .window) leads-in (first-point run source (point-hit run source cell h));
-        leftmost = rw place (mod-lt (cell % run .window) (s .ticks));
-        offset = rw place o;
+        leftmost = rw distance (mod-lt (cell % run .window) (s .ticks));
+        offset = rw distance o;
       }
 
 -- ---- the first hit of the run
@@ -71,11 +71,11 @@ module _ {run : Run} (v : ValidRun run) {source : Source} (s : ValidSource sourc
   unfolding offsetOf
   begun-at {to} {offset} h is =
       let first = rw none-before at (sought-cell v s o h) in
-      let place : ((to .line - run .first) * run .window + to .distance) % run .window ≡ to .distance = distance-at run (to .line - run .first) (h .first .inside) in
+      let distance : ((to .line - run .first) * run .window + to .distance) % run .window ≡ to .distance = distance-at run (to .line - run .first) (h .first .inside) in
       let low = point-low v s o in
       record {
         first = first;
-        stands = λ l. record { hit = first .hit l; leftmost = omega (arith, h .nearer); offset = rw place is };
+        stands = λ l. record { hit = first .hit l; leftmost = omega (arith, h .nearer); offset = rw distance is };
       }
 
   pub begun-none : {offset : ℤ} → Sought (source .period) (run .interval % source .period) (run .window) (run .last) from Nothing → Begun run source (record { offset = offset; cell = record { 0 = cellsOf run } })
@@ -177,7 +177,7 @@ module _ {run : Run} (v : ValidRun run) {source : Source} (s : ValidSource sourc
       }
 
 module _ {run : Run} (v : ValidRun run) {source : Source} (s : ValidSource source) {only : Vector} (h : IsSingle (source .period) (run .interval % source .period) (width run source) only) where
-  -- p/g lines lead on, to the same place
+  -- p/g lines lead on, to the same distance
   onward : (d : ℕ) → d < width run source → Next (source .period) (run .interval % source .period) (width run source) d (only .line) d
   onward d l = next-single (s .ticks) (h .is-gcd) (rw (h .rises) (mul-div-cancel' (h .g) (h .is-gcd .divides-right))) (h .wide) l
 

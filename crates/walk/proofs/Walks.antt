@@ -1,4 +1,4 @@
--- The walk from the first hit of a line to the first hit of the next line that has one, told of the code's steps and places.
+-- The walk from the first hit of a line to the first hit of the next line that has one, told of the code's steps and hits.
 -- The hits are at distances below the window's width or the period, whichever is less: there a line has at most one.
 -- Assumes nothing.
 use Prim.Native.Nat.{ℕ, _+_, _-_, _*_, _/_, _%_, _^_, _≤_, _<_}
@@ -44,11 +44,11 @@ module _ {run : Run} (v : ValidRun run) {source : Source} (s : ValidSource sourc
   stands : to .offset ≡ pos e -ℤ pos (run .window / 2) → Stands run source to
   unfolding offsetOf
   stands o =
-      let place : to .cell .0 % run .window ≡ e = rw is (distance-at run (at .cell .0 / run .window + Y) inside) in
+      let distance : to .cell .0 % run .window ≡ e = rw is (distance-at run (at .cell .0 / run .window + Y) inside) in
       record {
         hit = rw is (hit-point run source (at .cell .0 / run .window + Y) inside there);
         leftmost = omega (arith, next .inside);
-        offset = rw place o;
+        offset = rw distance o;
       }
 
   rises : at .cell .0 < to .cell .0
@@ -79,7 +79,7 @@ module _ {run : Run} (v : ValidRun run) {source : Source} (s : ValidSource sourc
       let alike = cong-below (cong-trans (first-point run source o .cong) (cong-sym (subst (λ x. Points run source e (run .first + x)) (sym same) there .cong))) zp (omega (arith, next .inside)) in
       omega (arith, is, div-add-mod' z (run .window), ap (λ x. x * run .window) same))
 
-  pub landed : to .offset ≡ pos e -ℤ pos (run .window / 2) → NextLine run source at to
+  landed : to .offset ≡ pos e -ℤ pos (run .window / 2) → NextLine run source at to
   landed o = record { stands = stands o; later = later; rises = rises; none = none }
 
 -- ---- the steps are small, and so is every sum of the walk
@@ -98,10 +98,10 @@ pub apart-by : (d h : ℕ) → (pos d -ℤ pos h) +ℤ pos h ≡ pos d
 apart-by d h = omega (arith, parts, sum (pos d) (negℤ (pos h)), neg-up (pos h), neg-dn (pos h), sum (pos d -ℤ pos h) (pos h))
 
 -- two offsets and their distances are in one order
-pub shifted-le : (x y : ℤ) (h : ℕ) {a b : ℕ} → x +ℤ pos h ≡ pos a → y +ℤ pos h ≡ pos b → x ≤ℤ y → a ≤ b
+shifted-le : (x y : ℤ) (h : ℕ) {a b : ℕ} → x +ℤ pos h ≡ pos a → y +ℤ pos h ≡ pos b → x ≤ℤ y → a ≤ b
 shifted-le x y h {a} {b} e f l = omega (arith, parts, sum x (pos h), sum y (pos h))
 
-pub shifted-lt : (x y : ℤ) (h : ℕ) {a b : ℕ} → x +ℤ pos h ≡ pos a → y +ℤ pos h ≡ pos b → x <ℤ y → a < b
+shifted-lt : (x y : ℤ) (h : ℕ) {a b : ℕ} → x +ℤ pos h ≡ pos a → y +ℤ pos h ≡ pos b → x <ℤ y → a < b
 shifted-lt x y h {a} {b} e f l = omega (arith, parts, sum x (pos h), sum y (pos h))
 
 -- an offset at distance d, a step to the left, a step to the right, and both
@@ -147,7 +147,7 @@ sums x y h k = record {
 pub wider : (z : ℤ) → (negℤ (pos 4096) ≤ℤ z) × (z ≤ℤ pos 4096) → (negℤ (pos 8192) ≤ℤ z) × (z ≤ℤ pos 8192)
 wider z h = (omega (arith, parts, h .0, neg-dn (pos 4096), neg-up (pos 4096), neg-dn (pos 8192), neg-up (pos 8192)), omega (arith, parts, h .1))
 
--- the numbers of a walk and of the place where it stands
+-- the numbers of a walk and of the hit where it stands
 pub record Near (walk : Walk) (at : LineHit) : Type 0 where
   pub offset : (negℤ (pos 4096) ≤ℤ at .offset) × (at .offset ≤ℤ pos 4096)
   pub low : (negℤ (pos 4096) ≤ℤ walk .low) × (walk .low ≤ℤ pos 4096)
@@ -159,7 +159,7 @@ pub record Near (walk : Walk) (at : LineHit) : Type 0 where
   pub right-cells : walk .right .cells ≤ 8796093022208
   pub both-cells : walk .both .cells ≤ 2 ^ 44
 
-pub small : {run : Run} {source : Source} {walk : Walk} {at : LineHit} → ValidRun run → ValidSource source → Leads run source walk → Stands run source at → Near walk at
+small : {run : Run} {source : Source} {walk : Walk} {at : LineHit} → ValidRun run → ValidSource source → Leads run source walk → Stands run source at → Near walk at
 unfolding offsetOf
 small {run} {source} {walk} {at} v s l here =
     let w = v .wide in
@@ -239,6 +239,16 @@ module _ {run : Run} (v : ValidRun run) {source : Source} (s : ValidSource sourc
 
   high-false : ltZ (toZ w64 (ofZ w64 (at .offset))) (toZ w64 (ofZ w64 (walk .high))) ≡ false → l .below ≤ at .cell .0 % run .window
   high-false t = let n = small v s l here in shifted-le (walk .high) (at .offset) (run .window / 2) high-is by-distance (ltZ-false (at .offset) (walk .high) (rw (held (at .offset) (n .offset), held (walk .high) (n .high)) at t))
+
+  -- the test whether the step to the left leads out of the window, as a caller makes it
+  pub out-true : ltZ (toZ w64 (ofZ w64 (at .offset))) (toZ w64 (ofZ w64 (walk .low))) ≡ true → at .offset <ℤ walk .low
+  out-true t = let n = small v s l here in ltZ-true (at .offset) (walk .low) (rw (held (at .offset) (n .offset), held (walk .low) (n .low)) at t)
+
+  pub out-false : ltZ (toZ w64 (ofZ w64 (at .offset))) (toZ w64 (ofZ w64 (walk .low))) ≡ false → at .offset <ℤ walk .low → ⊥
+  out-false t h =
+      let n = small v s l here in
+      let k = ltZ-false (at .offset) (walk .low) (rw (held (at .offset) (n .offset), held (walk .low) (n .low)) at t) in
+      omega (arith, parts)
 
   pub step-left : {to : LineHit} → leZ (toZ w64 (ofZ w64 (walk .low))) (toZ w64 (ofZ w64 (at .offset))) ≡ true → Moved at (walk .left) to → NextLine run source at to
   step-left {to} t m =

@@ -43,7 +43,7 @@ pub record GoesBy (left right : Vector) (window width : ℕ) (walk : Walk) : Typ
   pub low : walk .low ≡ (pos 0 -ℤ pos (window / 2)) -ℤ left .offset
   pub high : walk .high ≡ (pos width -ℤ pos (window / 2)) -ℤ right .offset
 
--- A place and a step whose sums stay far from the ends of the numbers.
+-- A hit and a step whose sums stay far from the ends of the numbers.
 pub record Movable (at : LineHit) (step : Step) : Type 0 where
   pub offset-low : negℤ (pos 4096) ≤ℤ at .offset
   pub offset-high : at .offset ≤ℤ pos 4096
@@ -52,7 +52,7 @@ pub record Movable (at : LineHit) (step : Step) : Type 0 where
   pub cell : at .cell .0 ≤ 2 ^ 45
   pub cells : step .cells ≤ 2 ^ 44
 
--- The place `to` is the place `at` a step on.
+-- `to` is a step on from `at`.
 pub record Moved (at : LineHit) (step : Step) (to : LineHit) : Type 0 where
   pub offset : to .offset ≡ at .offset +ℤ step .offset
   pub cell : to .cell .0 ≡ at .cell .0 + step .cells
@@ -88,7 +88,7 @@ pub record Leads (run : Run) (source : Source) (walk : Walk) : Type 0 where
   pub goes-right : (d : ℕ) → d < width run source → d < from → d < below → Next (source .period) (run .interval % source .period) (width run source) d δ (d + C)
   pub goes-both : (d : ℕ) → d < width run source → d < from → below ≤ d → (A ≤ d + C) × Next (source .period) (run .interval % source .period) (width run source) d (β + δ) (d + C - A)
 
--- The place is the first hit of its line.
+-- It is the first hit of its line.
 pub record Stands (run : Run) (source : Source) (at : LineHit) : Type 0 where
   pub hit : isHit run source (at .cell .0) ≡ true
   pub leftmost : at .cell .0 % run .window < source .period
@@ -104,7 +104,7 @@ pub record Walking (walk : Walk) (at : LineHit) : Type 0 where
   pub stands : Stands run source at
   pub inside : at .cell .0 < cellsOf run
 
--- The place `to` is the first hit of the next line after `at` that has one.
+-- `to` is the first hit of the next line after `at` that has one.
 pub record NextLine (run : Run) (source : Source) (at to : LineHit) : Type 0 where
   pub stands : Stands run source to
   pub later : lineOf run (at .cell .0) < lineOf run (to .cell .0)
@@ -115,12 +115,12 @@ pub record NextLine (run : Run) (source : Source) (at to : LineHit) : Type 0 whe
 abbrev pub Walks : Walk → LineHit → LineHit → Type 0
 Walks walk at to = (run : Run) (source : Source) → ValidRun run → ValidSource source → Leads run source walk → Stands run source at → NextLine run source at to
 
--- The place is that of the run's first hit, or its cell is the number of cells if there is none.
+-- It is the run's first hit, or its cell is the number of cells if there is none.
 pub record Begun (run : Run) (source : Source) (at : LineHit) : Type 0 where
   pub first : FirstFrom run source 0 (at .cell .0)
   pub stands : at .cell .0 < cellsOf run → Stands run source at
 
--- The place is on the cell's line, and where the cell is hit it is that of the first hit there.
+-- It is on the cell's line, and where the cell is hit it is the first hit there.
 pub record Begins (run : Run) (source : Source) (cell : ℕ) (at : LineHit) : Type 0 where
   pub line : at .cell .0 / run .window ≡ cell / run .window
   pub stands : isHit run source cell ≡ true → Stands run source at

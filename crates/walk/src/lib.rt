@@ -131,8 +131,7 @@ pub fn begin(run: Run, source: Source) -> LineHit
     }
 }
 
-// Inner step. The place whole periods left of a cell, as far left as its line goes: of a hit cell, that of the first hit of its
-// line. The number of cells may be asked with too, where there is no hit.
+// Inner step. The first hit on the line of a hit cell: whole periods left of it, as far left as the line goes.
 pub fn line_hit_of(run: Run, source: Source, cell: RunCell) -> LineHit
     requires { ⌜ ValidRun run × ValidSource source × cell .0 ≤ cellsOf run ⌝ }
     ensures { λ r. ⌜ Begins run source (cell .0) r ⌝ }
@@ -146,7 +145,7 @@ pub fn line_hit_of(run: Run, source: Source, cell: RunCell) -> LineHit
 }
 
 impl LineHit {
-    // The place a step on.
+    // A step on from here.
     fn moved(self, step: Step) -> LineHit
         requires { ⌜ Movable self step ⌝ }
         ensures { λ r. ⌜ Moved self step r ⌝ }

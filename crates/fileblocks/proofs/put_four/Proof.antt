@@ -1,7 +1,7 @@
 -- `fileblocks::put_four` meets its contract: four stores fill a room of four. Assumes nothing.
 use borrow.Author.Needs.{needs}
 use Rattle.fileblocks.specs.FileBlock.{four}
-use Rattle.fileblocks.proofs.Writing.{four-stores}
+use Rattle.fileblocks.proofs.Front.{four-stores}
 use Rattle.fileblocks.proofs.put_four.Statement.{statement}
 use Rattle.fileblocks.proofs.put_four.Tie as tie
 

@@ -31,7 +31,7 @@ record Blocks (run : Run) (entries : List Entry) (old map : List ℕ) (first : �
 begins : (run : Run) (entries : List Entry) (old : List ℕ) → ValidRun run → UpTo ceiling old → Blocks run entries old old (run .first)
 begins run entries old v small =
     let none : run .first - run .first ≡ 0 = omega arith in
-    record { from = omega arith; to = omega arith; small = small; cells = 0; cells-are = rw none (omega arith); done = starts ceiling _ old }
+    record { from = omega arith; to = omega arith; small = small; cells = 0; cells-are = rw none (omega arith); done = starts ceiling _ old 0 }
 
 -- a block's cells end within the run
 block-room : {run block : Run} → IsBlock run block → block .first ≤ block .last → cellsOf block + shiftOf run block ≤ cellsOf run

@@ -4,13 +4,14 @@ use borrow.Author.Needs.{needs}
 use native.Mathlib.Omega.{arith}
 use Prim.Native.Nat.{_-_}
 use lib.ListN.{length}
+use Rattle.scope.specs.Run.{ceiling}
 use Rattle.map.proofs.Raised.{ends}
 use Rattle.map.proofs.Rows.{Line, line-starts, line-next}
 use Rattle.map.proofs.add_line.Statement.{statement}
 use Rattle.map.proofs.add_line.Tie as tie
 
 abbrev Inv-loop : tie.InvT-loop
-Inv-loop line₀ start period weight d₀ line d = Line period start weight line₀ d line
+Inv-loop line₀ start period weight d₀ line d = Line ceiling period start weight line₀ d line
 
 abbrev μ-loop : tie.MeasureT-loop
 μ-loop line₀ start period weight d₀ line d = length line₀ - d

@@ -15,7 +15,7 @@ use Rattle.map.proofs.add_rows.Statement.{statement}
 use Rattle.map.proofs.add_rows.Tie as tie
 
 abbrev Inv-loop : tie.InvT-loop
-Inv-loop weight map₀ window period step start₀ base₀ map start base = Rows weight map₀ window period step start₀ map start base
+Inv-loop weight map₀ window period step start₀ base₀ map start base = Rows ceiling weight map₀ window period step start₀ map start base
 
 abbrev μ-loop : tie.MeasureT-loop
 μ-loop weight map₀ window period step start₀ base₀ map start base = length map₀ - base

@@ -6,7 +6,7 @@ use borrow.Author.Needs.{needs}
 use lib.ListN.{length, length-take, length-drop}
 use Rattle.fileblocks.specs.FileBlock.{contentBytes}
 use Rattle.saved.specs.File.{fileBlocksFor}
-use Rattle.fileblocks.proofs.Writing.{written-length}
+use Rattle.fileblocks.proofs.Front.{front-length}
 use Rattle.saved.proofs.Cells.{CellsWritten, cells-none, cells-more, cells-room, cells-all}
 use Rattle.saved.proofs.write_cells.Statement.{statement}
 use Rattle.saved.proofs.write_cells.Tie as tie
@@ -80,7 +80,7 @@ loop-again c =
     cells-more (turn .before .before .loop .inv) (turn .before .loop-test .taken) (turn .least .ensures) (c .before .before .write-file-block .ensures)
 
 same-length : tie.Need-same-length Inv-loop μ-loop
-same-length c = written-length (c .before .loop .inv .written)
+same-length c = front-length (c .before .loop .inv .written)
 
 returns : tie.Need-returns Inv-loop μ-loop
 returns c = cells-all (c .before .loop .inv) (c .loop-test .left)

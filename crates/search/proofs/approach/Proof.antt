@@ -6,7 +6,8 @@ use mathlib.Core.Path.{_≡_, ap, _∙_}
 use Prim.Native.Nat.{_≤_, _+_, _*_}
 use lib.IntN.{natAbs}
 use mir.Facts.{toZ-ofZ}
-use Rattle.search.proofs.Descent.{Turned, near-same, near-right, near-left, right-turns, left-turns, whole-few, fits-before, fits-last}
+use Rattle.vectors.proofs.Sequence.{held-before, held-last}
+use Rattle.search.proofs.Descent.{Turned, near-same, near-right, near-left, right-turns, left-turns, whole-few}
 use Rattle.search.proofs.approach.Statement.{statement}
 use Rattle.search.proofs.approach.Tie as tie
 
@@ -15,7 +16,7 @@ size-requires c κs = search needs
 
 -- the sizes are those of the two offsets
 by : (c : tie.After-size) → c .size .result ≡ natAbs (c .before .before .args .last .offset)
-by c = c .size .ensures ∙ ap natAbs (toZ-ofZ (fits-last (c .before .before .pre .division)))
+by c = c .size .ensures ∙ ap natAbs (toZ-ofZ (held-last (c .before .before .pre .division)))
 
 returns : tie.Need-returns
 returns c = λ p q st. near-same (c .before .before .before .before .pre) (rw (by (c .before .before)) at (c .if1 .taken))
@@ -75,7 +76,7 @@ returns-2 c =
     let e = t .before .before .before in
     let h = e .before .before .before .before .pre in
     let m = by (e .before .before) in
-    λ p q st. rw m (near-left h (rw (toZ-ofZ (fits-last (h .division))) at (t .if2 .taken)) (far e) (rw (d .before .before .wider .ensures, m) at (d .turns-past .ensures)) st)
+    λ p q st. rw m (near-left h (rw (toZ-ofZ (held-last (h .division))) at (t .if2 .taken)) (far e) (rw (d .before .before .wider .ensures, m) at (d .turns-past .ensures)) st)
 
 -- ---- where it leads right
 
@@ -83,7 +84,7 @@ size-requires-2 : tie.Need-size-requires-2
 size-requires-2 c κs = search needs
 
 from : (c : tie.After-size2) → c .size2 .result ≡ natAbs (c .before .before .before .before .before .before .before .before .before .args .before .offset)
-from c = c .size2 .ensures ∙ ap natAbs (toZ-ofZ (fits-before (c .before .before .before .before .before .before .before .before .before .pre .division)))
+from c = c .size2 .ensures ∙ ap natAbs (toZ-ofZ (held-before (c .before .before .before .before .before .before .before .before .before .pre .division)))
 
 sub-turns-past-2 : tie.Need-sub-turns-past-2
 sub-turns-past-2 c =
@@ -144,7 +145,7 @@ returns-3 c =
     let h = e .before .before .before .before .pre in
     let m = by (e .before .before) in
     let n = from (d .before .before) in
-    λ p q st. rw (m, n) (near-right h (rw (toZ-ofZ (fits-last (h .division))) at (t .if2 .left)) (far e) (rw (m, n) at (d .turns-past2 .ensures)) st)
+    λ p q st. rw (m, n) (near-right h (rw (toZ-ofZ (held-last (h .division))) at (t .if2 .left)) (far e) (rw (m, n) at (d .turns-past2 .ensures)) st)
 
 pub approach-spec : {M : Type 1} → statement M
 approach-spec =

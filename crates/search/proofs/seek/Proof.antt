@@ -8,12 +8,12 @@ use mir.Val.{toZ, ofZ}
 use mir.Facts.{toZ-ofZ}
 use Rattle.vectors.specs.declared.Vector.{Vector}
 use Rattle.vectors.specs.InnerSequence.{Successive}
-use Rattle.vectors.proofs.Sequence.{onward, falls, some-size}
+use Rattle.vectors.proofs.Sequence.{onward, later, falls, some-size, held-last, goes}
 use Rattle.search.specs.declared.Point.{Point}
 use Rattle.search.specs.declared.Found.{Found}
 use Rattle.search.specs.declared.Found.the-variants.{At, Nothing}
 use Rattle.search.specs.InnerSearch.{Seeking, Sought}
-use Rattle.search.proofs.Descent.{goes, fits-last, approaching, seeking, sought-past, sought-here, sought-never, sought-on}
+use Rattle.search.proofs.Descent.{approaching, seeking, sought-past, sought-here, sought-never, sought-on}
 use Rattle.search.proofs.seek.Statement.{statement}
 use Rattle.search.proofs.seek.Tie as tie
 
@@ -47,7 +47,7 @@ returns-2 c =
     let o = c .before .before .before in
     let l = o .before .before .before .before in
     let w = on l in
-    let e = sym (toZ-ofZ (fits-last (w .seeks .division))) ∙ ap (toZ w64) (c .if3 .taken) in
+    let e = sym (toZ-ofZ (held-last (w .seeks .division))) ∙ ap (toZ w64) (c .if3 .taken) in
     λ p q st. w .leads p q Nothing st (sought-never (l .loop .at) (w .same p q st) e (w .seeks .below) (o .if2 .left))
 
 -- past the test for 0, the last vector moves
@@ -69,7 +69,7 @@ loop-less c =
     let n = c .before in
     let e = n .before in
     let d = on (e .before .before .before .before .before .before .before) .seeks .division in
-    rw (n .next .ensures) (falls (onward (d .is) (some e)))
+    rw (n .next .ensures) (falls (later d (some e) .at))
 
 loop-again : tie.Need-loop-again Inv-loop μ-loop
 loop-again c =

@@ -8,7 +8,6 @@ use mir.Val.{toZ, ofZ}
 use mir.Facts.{toZ-ofZ}
 use borrow.Fn.Kinds.{In}
 use borrow.Fn.PlainCycle.{Measures, is, falls, and}
-use Rattle.vectors.specs.Vectors.{vector}
 use Rattle.vectors.specs.InnerSequence.{nextOf}
 use Rattle.vectors.proofs.Sequence as Sequence
 use Rattle.vectors.proofs.divide.Reads as divide
@@ -34,10 +33,10 @@ claims t = (size-reads.Asked, size-reads.Learnt, next-reads.Asked, next-reads.Le
 module _ (t : ℕ) where
   -- the two offsets as they are read
   u-read : (c : lts.Start (claims t) (divide-at t) divide.Post) → toZ w64 (ofZ w64 (c .args .before .offset)) ≡ c .args .before .offset
-  u-read c = toZ-ofZ (Sequence.held-before (c .pre .1 .at) (c .pre .1 .small))
+  u-read c = toZ-ofZ (Sequence.held-before (c .pre .1 .division))
 
   v-read : (c : lts.Start (claims t) (divide-at t) divide.Post) → toZ w64 (ofZ w64 (c .args .last .offset)) ≡ c .args .last .offset
-  v-read c = toZ-ofZ (Sequence.held-last (c .pre .1 .at) (c .pre .1 .small))
+  v-read c = toZ-ofZ (Sequence.held-last (c .pre .1 .division))
 
   size-requires : lts.Need-size-requires (claims t) (divide-at t) divide.Post
   size-requires c κs = tt
@@ -59,7 +58,7 @@ module _ (t : ℕ) where
   next-requires : lts.Need-next-requires (claims t) (divide-at t) divide.Post
   next-requires c κs =
       let s = c .before .before .before .before .before in
-      rw (u-read s, v-read s) (Sequence.goes-on (s .pre .1) (past c))
+      rw (u-read s, v-read s) (Sequence.goes (s .pre .1 .division) (Sequence.some-past (s .pre .1) (past c)))
 
   -- the vector after the last
   after-is : (c : lts.After-next (claims t) (divide-at t) divide.Post) → let s = c .before .before .before .before .before .before .args in c .next .result ≡ nextOf (s .before) (s .last)
@@ -70,13 +69,13 @@ module _ (t : ℕ) where
       let n = c .before .before .before .before in
       let s = n .before .before .before .before .before .before in
       let next = Sequence.ready (s .pre .1) (past (n .before)) in
-      rw (v-read s, after-is n) (rw (← (s .pre .0)) (Sequence.falls (next .at)), next)
+      rw (v-read s, after-is n) (rw (← (s .pre .0)) (Sequence.falls (next .division .at)), next)
 
   returns-2 : lts.Need-returns-2 (claims t) (divide-at t) divide.Post
   returns-2 c p r h =
       let n = c .before .before .before .before .before in
       let s = n .before .before .before .before .before .before in
-      c .divide .ensures p r (rw (v-read s, after-is n) (Sequence.onward h (Sequence.goes-on (s .pre .1) (past (n .before)) .some)))
+      c .divide .ensures p r (rw (v-read s, after-is n) (Sequence.onward h (Sequence.some-past (s .pre .1) (past (n .before)))))
 
 pub +divide-spec : {M : Type 1} → statement M
 +divide-spec =

@@ -2,7 +2,6 @@
 -- Assumes nothing.
 use mathlib.Core.Path.{sym, ap, _∙_}
 use borrow.Author.Needs.{needs}
-use native.Mathlib.Omega.{arith}
 use mir.Syntax.{w64}
 use mir.Val.{SFits, toZ, ofZ}
 use mir.Facts.{toZ-ofZ}
@@ -25,7 +24,7 @@ stopped c =
     c .stop .ensures (d .before .args .period) (d .before .args .remainder) (rw (d .first-two .ensures) (first-two (d .before .pre .remainder)))
 
 fits : (c : tie.After-stop) → SFits w64 (c .stop .result .last .offset)
-fits c = let small = c .before .before .pre .small in held-last (stopped c .at) (omega arith)
+fits c = held-last (record { p = _; r = _; at = stopped c .at; small = c .before .before .pre .small })
 
 returns : tie.Need-returns
 returns c =

@@ -15,7 +15,7 @@ size-requires c κs = search needs
 
 -- the sizes are those of the two offsets
 from : (c : tie.After-size) → c .size .result ≡ natAbs (c .before .before .args .before .offset)
-from c = let o = c .before .before .pre in c .size .ensures ∙ ap natAbs (toZ-ofZ (held-before (o .at) (o .small)))
+from c = c .size .ensures ∙ ap natAbs (toZ-ofZ (held-before (c .before .before .pre .division)))
 
 sub-plus-times : tie.Need-sub-plus-times
 sub-plus-times c = rw (from c) (c .before .before .pre .past)

@@ -48,7 +48,7 @@ left-over c =
     let s = d .before .before .before .before in
     let reach = s .pre .reach in
     let rest = ap₂ (λ n m. n - s .args .times * m) (from d) (by d) in
-    c .to-side-of .ensures ∙ ap₂ alongside (toZ-ofZ (at d .before)) rest ∙ same-side (s .pre .at) (s .args .times) _ (omega arith)
+    c .to-side-of .ensures ∙ ap₂ alongside (toZ-ofZ (at d .before)) rest ∙ same-side (s .pre .division .at) (s .args .times) _ (omega arith)
 
 returns : tie.Need-returns
 returns c =

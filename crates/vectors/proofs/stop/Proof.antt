@@ -3,7 +3,7 @@ use borrow.Author.Needs.{needs}
 use Prim.Native.Nat.{ℕ}
 use mir.Facts.{toZ-ofZ}
 use Rattle.vectors.specs.Vectors.{vector}
-use Rattle.vectors.specs.InnerSequence.{turn, Successive, Stopped}
+use Rattle.vectors.specs.InnerSequence.{turn, Successive, Division, Stopped}
 use Rattle.vectors.proofs.Sequence.{held-before, held-last}
 use Rattle.vectors.proofs.stop.Statement.{statement}
 use Rattle.vectors.proofs.stop.Tie as tie
@@ -17,9 +17,9 @@ divided c p r h = c .divide .ensures p r h
 
 returns : tie.Need-returns
 returns c p r h =
-    let pre = c .before .before .before .before .before .pre in
-    let at = divided c (pre .p) (pre .r) (pre .at) .at in
-    rw (toZ-ofZ (held-before at (pre .small)), toZ-ofZ (held-last at (pre .small))) (divided c p r h)
+    let from = c .before .before .before .before .before .pre .division in
+    let to : Division _ _ = record { p = from .p; r = from .r; at = divided c (from .p) (from .r) (from .at) .at; small = from .small } in
+    rw (toZ-ofZ (held-before to), toZ-ofZ (held-last to)) (divided c p r h)
 
 pub stop-spec : {M : Type 1} → statement M
 stop-spec = tie.close (tie.spec divide-requires returns)

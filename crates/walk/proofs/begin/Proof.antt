@@ -1,4 +1,4 @@
--- `walk::begin` meets its contract: the point that was sought from the first line on, as a place. Assumes nothing.
+-- `walk::begin` meets its contract: the point that was sought from the first line on, as a hit. Assumes nothing.
 use borrow.Author.Needs.{needs}
 use native.Mathlib.Omega.{arith}
 use Prim.Native.Nat.{_+_, _-_, _*_, _/_, _%_, _<_, _^_}

@@ -9,24 +9,24 @@ use lib.Seq.{drop-cons, append-snoc, set-at, take-at, drop-at, drop-length}
 use borrow.Rule.Slice.PartMut.{putMid, post-is}
 
 -- the room `before` now holds `done`, n bytes, and behind them what it held
-pub record Written (before now done : List ℕ) (n : ℕ) : Type 0 where
+pub record Front (before now done : List ℕ) (n : ℕ) : Type 0 where
   pub size : length done ≡ n
   pub within : n ≤ length before
   pub is : now ≡ done ++ drop n before
 
-pub written-none : (l : List ℕ) → Written l l [] 0
-written-none l = record { size = refl; within = omega arith; is = refl }
+pub front-none : (l : List ℕ) → Front l l [] 0
+front-none l = record { size = refl; within = omega arith; is = refl }
 
-pub written-length : {before now done : List ℕ} {n : ℕ} → Written before now done n → length now ≡ length before
-written-length {before} {now} {done} {n} w =
+pub front-length : {before now done : List ℕ} {n : ℕ} → Front before now done n → length now ≡ length before
+front-length {before} {now} {done} {n} w =
     let e = simp (length-append, length-drop) at (ap length (w .is)) in
     let s = w .size in
     let h = w .within in
     omega arith
 
 -- one byte more
-pub written-one : {before now done : List ℕ} {n : ℕ} (v : ℕ) → Written before now done n → n < length before → Written before (set now n v) (done ++ (v ∷ [])) (n + 1)
-written-one {before} {now} {done} {n} v w h = record {
+pub front-one : {before now done : List ℕ} {n : ℕ} (v : ℕ) → Front before now done n → n < length before → Front before (set now n v) (done ++ (v ∷ [])) (n + 1)
+front-one {before} {now} {done} {n} v w h = record {
   size = let s = w .size in simp length-append (omega arith);
   within = omega arith;
   is =
@@ -37,8 +37,8 @@ written-one {before} {now} {done} {n} v w h = record {
 }
 
 -- a part more, up to place e, lent and come back
-pub written-part : {before now done : List ℕ} {n : ℕ} (e : ℕ) (part : List ℕ) → Written before now done n → n ≤ e → e ≤ length before → length part ≡ e - n → Written before (putMid n (e - n) now part) (done ++ part) e
-written-part {before} {now} {done} {n} e part w h l k = record {
+pub front-part : {before now done : List ℕ} {n : ℕ} (e : ℕ) (part : List ℕ) → Front before now done n → n ≤ e → e ≤ length before → length part ≡ e - n → Front before (putMid n (e - n) now part) (done ++ part) e
+front-part {before} {now} {done} {n} e part w h l k = record {
   size = let s = w .size in simp length-append (omega arith);
   within = l;
   is =
@@ -50,8 +50,8 @@ written-part {before} {now} {done} {n} e part w h l k = record {
 }
 
 -- the whole room
-pub written-all : {before now done : List ℕ} {n : ℕ} → Written before now done n → n ≡ length before → now ≡ done
-written-all {before} {now} {done} {n} w e = w .is ∙ rw (e, drop-length, append-nil)
+pub front-all : {before now done : List ℕ} {n : ℕ} → Front before now done n → n ≡ length before → now ≡ done
+front-all {before} {now} {done} {n} w e = w .is ∙ rw (e, drop-length, append-nil)
 
 -- four stores fill a room of four
 pub four-stores : {a b c d : ℕ} (l : List ℕ) → length l ≡ 4 → set (set (set (set l 0 a) 1 b) 2 c) 3 d ≡ a ∷ b ∷ c ∷ d ∷ []
