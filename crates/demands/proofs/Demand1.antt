@@ -2,7 +2,7 @@
 -- gets the refusal number of document 01, exactly when its table says so, and a refused call stores nothing."
 -- That every call ends is what the check of its function says, and no public operation has a `requires`. The rest stands
 -- here, for every input and every outcome that a promise admits. Assumes nothing.
-use Prim.Native.Nat.{ℕ, zero, suc, _≤_, _<_}
+use Prim.Native.Nat.{ℕ, _≤_, _<_}
 use native.Mathlib.Omega.{arith}
 use mathlib.Core.Path.{_≡_, refl, sym, ap, _∙_, subst}
 use mathlib.Core.Logic.{_↔_, Iff·trans, _⊎_, inl, inr, _≢_}
@@ -48,9 +48,10 @@ use Rattle.text.proofs.Unique.{spells-unique}
 use Rattle.report.specs.declared.Output.{Output}
 use Rattle.report.specs.Report.{refusedWord, runReport, wholeReport, printed, reportOf}
 use Rattle.report.specs.Promise.{roomBytes, ReportPromise}
-use Rattle.scope.specs.Table.{Row, _given_, Says, Silent, BadPeriod, runTable}
+use Rattle.scope.specs.Table.{Row, _given_, Says, Silent, runTable}
 use Rattle.saved.specs.Table.{savingTable, readingTable}
-use Rattle.sources.specs.Table.{BadWeight, atPlace, AtFault, sourcesTable}
+use Rattle.sources.specs.Table.{AtFault, sourcesTable}
+use Rattle.sources.proofs.Table as Sources
 use Rattle.vectors.specs.Table.{vectorsTable}
 use Rattle.hits.specs.Table.{firstHitTable, listingTable}
 use Rattle.map.specs.Table.{mapTable}
@@ -216,61 +217,10 @@ module _ (run : Run) (fits : run .interval ≤ 4294967295) where
 
 -- ---- a list of sources at fault
 
--- behind a list's first number the places are one more
-place-behind : (x : ℕ) (numbers : List ℕ) (k : ℕ) → 1 ≤ k → atPlace (x ∷ numbers) (suc k) ≡ atPlace numbers k
-place-behind x numbers zero h = absurd (omega arith)
-place-behind x numbers (suc k) h = refl
-
-module _ (p : ℕ) (periods : List ℕ) (w : ℕ) (weights : List ℕ) (n : ℕ) (rest : Says (sourcesTable (entriesOf periods weights)) n ↔ AtFault periods weights n) where
-  -- no place before the one at fault behind it, the first being within the limits
-  none-before : (BadPeriod p → ⊥) → (BadWeight w → ⊥) → (f : AtFault periods weights n) (k : ℕ) → 1 ≤ k → k < suc (f .place) → BadPeriod (atPlace (p ∷ periods) k) ⊎ BadWeight (atPlace (w ∷ weights) k) → ⊥
-  none-before a b f zero h l z = omega arith
-  none-before a b f (suc zero) h l (inl x) = a x
-  none-before a b f (suc zero) h l (inr y) = b y
-  none-before a b f (suc (suc k)) h l z = f .least (suc k) (omega arith) (omega arith) z
-
-  -- what the table says is broken at the least place at fault
-  found : Says (sourcesTable (entriesOf (p ∷ periods) (w ∷ weights))) n → AtFault (p ∷ periods) (w ∷ weights) n
-  unfolding entriesOf
-  found (inl h) = record { place = 1; from = omega arith; inside = omega arith; least = λ k h l z. omega arith; breaks = inl h }
-  found (inr (a, inl h)) = record { place = 1; from = omega arith; inside = omega arith; least = λ k h l z. omega arith; breaks = inr (a, inl h) }
-  found (inr (a, inr (b, h))) =
-      let f = rest .0 h in
-      record {
-        place = suc (f .place);
-        from = omega arith;
-        inside = omega arith;
-        least = none-before a b f;
-        breaks = rw (place-behind p periods (f .place) (f .from), place-behind w weights (f .place) (f .from)) (f .breaks);
-      }
-
-  -- and back, if the first is at fault
-  here : Says (4 given BadPeriod p ∷ 7 given BadWeight w ∷ []) n → Says (sourcesTable (entriesOf (p ∷ periods) (w ∷ weights))) n
-  unfolding entriesOf
-  here (inl h) = inl h
-  here (inr (a, inl h)) = inr (a, inl h)
-  here (inr (a, inr h)) = absurd (h .1)
-
-  -- or the one at place k
-  told : (k : ℕ) → 1 ≤ k → k ≤ length (p ∷ periods) → ((j : ℕ) → 1 ≤ j → j < k → BadPeriod (atPlace (p ∷ periods) j) ⊎ BadWeight (atPlace (w ∷ weights) j) → ⊥) → Says (4 given BadPeriod (atPlace (p ∷ periods) k) ∷ 7 given BadWeight (atPlace (w ∷ weights) k) ∷ []) n → Says (sourcesTable (entriesOf (p ∷ periods) (w ∷ weights))) n
-  unfolding entriesOf
-  told zero f l least breaks = absurd (omega arith)
-  told (suc zero) f l least breaks = here breaks
-  told (suc (suc k)) f l least breaks =
-      let none-here = least 1 (omega arith) (omega arith) in
-      let behind : (j : ℕ) → 1 ≤ j → j < suc k → BadPeriod (atPlace periods j) ⊎ BadWeight (atPlace weights j) → ⊥ = λ j i m. rw (place-behind p periods j i, place-behind w weights j i) at (least (suc j) (omega arith) (omega arith)) in
-      inr (λ a. none-here (inl a), inr (λ b. none-here (inr b), rest .1 (record { place = suc k; from = omega arith; inside = omega arith; least = behind; breaks = breaks })))
-
--- "source by source 4 before 7": what the table says of two lists is what is broken at the least place whose source breaks 4
--- or 7; it is 4 if that source breaks 4.
+-- "source by source 4 before 7": what the table says of two lists is what is broken by the first source that breaks 4 or 7; it
+-- is 4 if that source breaks 4.
 pub sources-at-fault : (periods weights : List ℕ) → length periods ≡ length weights → (n : ℕ) → Says (sourcesTable (entriesOf periods weights)) n ↔ AtFault periods weights n
-unfolding entriesOf
-sources-at-fault [] [] e n = (λ s. absurd s, λ f. absurd (omega (arith, f .inside)))
-sources-at-fault [] (w ∷ weights) e n = absurd (omega arith)
-sources-at-fault (p ∷ periods) [] e n = absurd (omega arith)
-sources-at-fault (p ∷ periods) (w ∷ weights) e n =
-    let rest = sources-at-fault periods weights (omega arith) n in
-    (found p periods w weights n rest, λ f. told p periods w weights n rest (f .place) (f .from) (f .inside) (f .least) (f .breaks))
+sources-at-fault = Sources.sources-at-fault
 
 -- The same of the sources that a text has.
 pub entries-at-fault : (entries : List Entry) (n : ℕ) → Says (sourcesTable entries) n ↔ AtFault (periodsOf entries) (weightsOf entries) n

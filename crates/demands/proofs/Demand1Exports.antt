@@ -1,7 +1,7 @@
 -- Demand 1 of the C functions: "Bad input gets the refusal number of document 01, exactly when its table says so, and a refused
 -- call stores nothing." Of every answer that a function's promise admits: its refusal is n exactly when the call's table says n;
 -- and where it is not 0, the answer is the number alone, with 0 in all else, and what is lent is as it was. Assumes nothing.
-use Prim.Native.Nat.{ℕ, zero, suc, _≤_}
+use Prim.Native.Nat.{ℕ, _≤_}
 use native.Mathlib.Omega.{arith}
 use mathlib.Core.Path.{_≡_, refl, sym, ap, _∙_}
 use mathlib.Core.Logic.{_↔_, _≢_, inl, inr}

@@ -38,7 +38,7 @@ use Rattle.map.specs.Promise.{MapPromise}
 use Rattle.map.proofs.Unique.{map-unique}
 use Rattle.hits.specs.declared.Listing.{Listing}
 use Rattle.hits.specs.declared.Listing.the-variants.{Done, More, Refused}
-use Rattle.hits.specs.Promise.{firstHitTests, listingTests, first as first-of, Listed, saysListing, listed, written, ListingPromise}
+use Rattle.hits.specs.Promise.{firstHitTests, listingTests, first as first-of, Listed, saysListing, listed, written}
 use Rattle.figures.specs.Table.{vectors, hits, mapped, saved, Holds}
 
 -- ---- vectors

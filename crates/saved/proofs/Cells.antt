@@ -1,5 +1,5 @@
 -- The blocks after block 0: how many there are, how one more is written, and how one more is read. Assumes nothing.
-use Prim.Native.Nat.{ℕ, zero, suc, _+_, _-_, _*_, _≤_, _<_, _^_, min}
+use Prim.Native.Nat.{ℕ, zero, suc, _+_, _-_, _*_, _≤_, _<_, min}
 use mathlib.Core.Path.{_≡_, refl, sym, ap, _∙_}
 use mathlib.Core.List.{List, _++_}
 use native.Mathlib.Nat.{le-refl}
@@ -12,6 +12,7 @@ use Rattle.scope.specs.declared.Run.{Run}
 use Rattle.scope.specs.Run.{cellsOf}
 use Rattle.fileblocks.specs.FileBlock.{fileBlockBytes, contentBytes, filled, fileBlockOf, contents}
 use Rattle.saved.specs.File.{firstJoined, laterFileBlocks, fileBlocksFor, fileLength, bytesFor, fileBlockAt, bytesIn}
+use Rattle.saved.specs.Inner.{manyBytes}
 use Rattle.rooms.proofs.Lists.{take-take-min, take-drop-take}
 use Rattle.fileblocks.proofs.FileBlock.{length-fileBlockOf}
 use Rattle.rooms.specs.InnerRooms.{Written}
@@ -61,12 +62,12 @@ length-laterFileBlocks map (suc k) =
 
 -- `now` is the room `before`, written with the first k blocks of a map
 pub record CellsWritten (map before now : List ℕ) (k : ℕ) : Type 0 where
-  pub few : length map < 2 ^ 37
+  pub few : length map < manyBytes
   pub room : length before ≡ fileBlockBytes * fileBlocksFor (length map)
   pub within : k ≤ fileBlocksFor (length map)
   pub written : Written before 0 (laterFileBlocks map k) (fileBlockBytes * k) now
 
-pub cells-none : {map before : List ℕ} → length map < 2 ^ 37 → length before ≡ fileBlockBytes * fileBlocksFor (length map) → CellsWritten map before before 0
+pub cells-none : {map before : List ℕ} → length map < manyBytes → length before ≡ fileBlockBytes * fileBlocksFor (length map) → CellsWritten map before before 0
 unfolding laterFileBlocks firstJoined
 cells-none h e = record { few = h; room = e; within = omega arith; written = written-none _ 0 (omega arith) }
 
@@ -136,13 +137,13 @@ length-bytesIn file (suc k) h =
 
 -- `now` is the map `before`, filled with what the first k blocks of cells hold
 pub record CellsRead (file before now : List ℕ) (k : ℕ) : Type 0 where
-  pub few : length before < 2 ^ 37
+  pub few : length before < manyBytes
   pub long : length file ≡ fileLength (length before)
   pub within : k ≤ fileBlocksFor (length before)
   pub same : length now ≡ length before
   pub written : Written before 0 (take (length before) (bytesIn file k)) (min (contentBytes * k) (length before)) now
 
-pub read-none : {file before : List ℕ} → length before < 2 ^ 37 → length file ≡ fileLength (length before) → CellsRead file before before 0
+pub read-none : {file before : List ℕ} → length before < manyBytes → length file ≡ fileLength (length before) → CellsRead file before before 0
 unfolding bytesIn firstJoined
 read-none {file} {before} h e = record {
   few = h;

@@ -11,14 +11,15 @@ use fileblocks::zeros_from;
 use scope::Run;
 use scope::Verdict;
 ghost use mathlib.Core.Path.{_≡_};
-ghost use Prim.Native.Nat.{_+_, _*_, _≤_, _<_, _^_};
+ghost use Prim.Native.Nat.{_+_, _*_, _≤_, _<_};
 ghost use lib.ListN.{length, take};
 ghost use Rattle.scope.specs.Run.{ValidRun};
 ghost use Rattle.scope.specs.Refusal.{complaint};
 ghost use Rattle.scope.specs.Reply.{reply};
 ghost use Rattle.scope.specs.InnerVerdict.{verdict};
-ghost use Rattle.fileblocks.specs.FileBlock.{fileBlockBytes, four, fileBlockOf};
+ghost use Rattle.fileblocks.specs.FileBlock.{fileBlockBytes, fileBlockOf};
 ghost use Rattle.saved.specs.File.{heading, laterFileBlocks, fileBlocksFor, fileLength, bytesFor, runOf, bytesIn, headingTests, laterFileBlocksTests, fileTests};
+ghost use Rattle.saved.specs.Inner.{manyBytes};
 ghost use Rattle.saved.specs.Promise.{saysReading, SavingPromise, ReadingPromise};
 
 // What saving a map came to.
@@ -50,7 +51,7 @@ fn bytes_for(run: Run) -> u64
 
 // How long the file of so many bytes of cells is: block 0, and a file block for each 504 begun.
 fn file_length(size: u64) -> u64
-    requires { ⌜ size < 2 ^ 37 ⌝ }
+    requires { ⌜ size < manyBytes ⌝ }
     ensures { λ r. ⌜ r ≡ fileLength size ⌝ }
 {
     FILE_BLOCK_BYTES as u64 * (1 + (size + (CONTENT_BYTES as u64 - 1)) / CONTENT_BYTES as u64)
@@ -72,7 +73,7 @@ fn write_heading(run: Run, block: &mut [u8])
 
 // Writes the blocks after block 0: 504 cells each, the last perhaps with fewer. Each turn writes one whole block.
 fn write_cells(map: &[u8], room: &mut [u8])
-    requires { ⌜ (length (now map) < 2 ^ 37) × (length (now room) ≡ fileBlockBytes * fileBlocksFor (length (now map))) ⌝ }
+    requires { ⌜ (length (now map) < manyBytes) × (length (now room) ≡ fileBlockBytes * fileBlocksFor (length (now map))) ⌝ }
     ensures { λ _. ⌜ now (room .exit) ≡ laterFileBlocks (now (map .entry)) (fileBlocksFor (length (now (map .entry)))) ⌝ }
 {
     let mut k: usize = 0;
@@ -128,7 +129,7 @@ fn judge_heading(block: &[u8]) -> Verdict
 
 // What 01's table says of the blocks after block 0, in order, if they are to hold `size` bytes of cells.
 fn judge_cells(size: usize, file: &[u8]) -> Verdict
-    requires { ⌜ (size < 2 ^ 37) × (length (now file) ≡ fileLength size) ⌝ }
+    requires { ⌜ (size < manyBytes) × (length (now file) ≡ fileLength size) ⌝ }
     ensures { λ r. ⌜ r ≡ verdict (complaint (laterFileBlocksTests size (now (file .entry)) (fileBlocksFor size))) ⌝ }
 {
     let mut k: usize = 0;
@@ -190,7 +191,7 @@ fn judge_file(file: &[u8]) -> Loaded
 
 // Fills a map with the cells that the blocks after block 0 hold: 504 a block, of the last as many as are left.
 fn load(file: &[u8], map: &mut [u8])
-    requires { ⌜ (length (now map) < 2 ^ 37) × (length (now file) ≡ fileLength (length (now map))) ⌝ }
+    requires { ⌜ (length (now map) < manyBytes) × (length (now file) ≡ fileLength (length (now map))) ⌝ }
     ensures { λ _. ⌜ now (map .exit) ≡ take (length (now (map .entry))) (bytesIn (now (file .entry)) (fileBlocksFor (length (now (map .entry))))) ⌝ }
 {
     let mut k: usize = 0;

@@ -1,5 +1,5 @@
 -- Document 01, "The refusal numbers", as propositions: the rows of a list of sources.
-use Prim.Native.Nat.{ℕ, zero, suc, _≤_, _<_}
+use Prim.Native.Nat.{ℕ, _<_}
 use mathlib.Core.Path.{_≡_}
 use mathlib.Core.Logic.{_⊎_}
 use mathlib.Core.List.{List, [], _∷_}
@@ -20,15 +20,10 @@ sourcesTable (entry ∷ entries) =
     7 given BadWeight (entry .weight) ∷
     sourcesTable entries
 
--- The number at a place of a list, counted from 1 as the places of sources are.
-abbrev pub atPlace : List ℕ → ℕ → ℕ
-atPlace numbers zero = 0
-atPlace numbers (suc k) = getD numbers k 0
-
--- The same of two lists as long as each other: the least place whose source breaks 4 or 7; 4 if it breaks 4.
+-- The same of two lists as long as each other: of so many sources before it none breaks 4 or 7, and this one does; it is 4 if it
+-- breaks 4.
 pub record AtFault (periods weights : List ℕ) (n : ℕ) : Type 0 where
-  pub place : ℕ
-  pub from : 1 ≤ place
-  pub inside : place ≤ length periods
-  pub least : (k : ℕ) → 1 ≤ k → k < place → BadPeriod (atPlace periods k) ⊎ BadWeight (atPlace weights k) → ⊥
-  pub breaks : Says (4 given BadPeriod (atPlace periods place) ∷ 7 given BadWeight (atPlace weights place) ∷ []) n
+  pub before : ℕ
+  pub inside : before < length periods
+  pub least : (k : ℕ) → k < before → BadPeriod (getD periods k 0) ⊎ BadWeight (getD weights k 0) → ⊥
+  pub breaks : Says (4 given BadPeriod (getD periods before 0) ∷ 7 given BadWeight (getD weights before 0) ∷ []) n

@@ -1,6 +1,6 @@
 -- `saved::save` meets its contract: each refusal is the first test that fails; with none, the room is written whole, block 0 first. Assumes nothing.
 use borrow.Author.Needs.{needs}
-use Prim.Native.Nat.{ℕ, _-_, _*_, _<_, _^_}
+use Prim.Native.Nat.{ℕ, _-_, _*_, _<_}
 use native.Mathlib.Nat.{le-refl}
 use mathlib.Core.List.{List}
 use native.Mathlib.Omega.{arith}
@@ -14,6 +14,7 @@ use Rattle.scope.proofs.Judged.{Passes, broken, sound, first, then, both, fine,
 use Rattle.scope.proofs.Limits.{valid-run, cells-few}
 use Rattle.fileblocks.specs.FileBlock.{fileBlockBytes, fileBlockOf}
 use Rattle.saved.specs.File.{heading, laterFileBlocks, fileBlocksFor, fileLength, bytesFor, fileOf, savingTests}
+use Rattle.saved.specs.Inner.{manyBytes}
 use Rattle.rooms.specs.InnerRooms.{Written}
 use Rattle.rooms.proofs.Written.{written-none, written-part, written-length, written-all}
 use Rattle.fileblocks.proofs.FileBlock.{length-fileBlockOf}
@@ -32,7 +33,7 @@ valid c = valid-run (passes c) (omega (arith, c .before .before .before .before 
 
 -- every test is passed
 record Admitted (run : Run) (map file : List ℕ) : Type 0 where
-  few : length map < 2 ^ 37
+  few : length map < manyBytes
   cells : length map ≡ cellsOf run
   long : length file ≡ fileLength (length map)
 
