@@ -58,7 +58,17 @@ fn first_refused(reply: FirstHit, number: u8) -> bool {
     }
 }
 
-// Whether the first hit of a case, with a fault here and there, is as it is to be. Longer runs are told by the Rust tests.
+// Whether a reply of the first hit is no refusal.
+fn first_accepted(reply: FirstHit) -> bool {
+    match reply {
+        FirstHit::Refused(_) => false,
+        FirstHit::At(_) => true,
+        FirstHit::Nothing => true,
+    }
+}
+
+// Whether the first hit of a case, with a fault here and there, is as it is to be. Of a run with more than 1,024 cells only that
+// it is not refused: its hits are told by the Rust tests.
 pub fn first_hit_agrees(case: Case, state: u64) -> bool {
     let mut marks = [0u8; 1024];
     let run = draw::spoilt_run(case.run, state);
@@ -71,7 +81,7 @@ pub fn first_hit_agrees(case: Case, state: u64) -> bool {
         return first_refused(reply, number);
     }
     if 1024 < cells {
-        return !first_refused(reply, 0);
+        return first_accepted(reply);
     }
     first_is(reply, run, period, start, &mut marks[0..cells])
 }
@@ -207,7 +217,21 @@ fn refused_in(run: Run, period: u32, start: u64, room: &mut [u64], number: u8) -
     }
 }
 
-// Whether the listing of a case, with a fault here and there, is as it is to be.
+// Whether a listing into a room of so many cells is not refused.
+fn accepted(run: Run, period: u32, start: u64, size: usize) -> bool {
+    let mut room = [NO_CELL; 8];
+    if 8 < size {
+        return false;
+    }
+    match hits::list_hits(run, Source { period }, RunCell(start), &mut room[0..size]) {
+        Listing::Refused(_) => false,
+        Listing::Done(_) => true,
+        Listing::More(_, _) => true,
+    }
+}
+
+// Whether the listing of a case, with a fault here and there, is as it is to be. Of a run with more than 1,024 cells only that it
+// is not refused: its hits are told by the Rust tests.
 pub fn listing_agrees(case: Case, state: u64) -> bool {
     let mut marks = [0u8; 1024];
     let run = draw::spoilt_run(case.run, state);
@@ -220,7 +244,7 @@ pub fn listing_agrees(case: Case, state: u64) -> bool {
         return refused(run, period, start, size, number);
     }
     if 1024 < cells {
-        return true;
+        return accepted(run, period, start, size);
     }
     list_marked(run, period, start, &mut marks[0..cells], state)
 }

@@ -106,7 +106,7 @@ fn print(ledger: &[u64]) {
         tally::READING,
         b"files read, with up to two bytes changed",
     );
-    tally::print(ledger, tally::TEXT, b"texts and their reports");
+    tally::print(ledger, tally::TEXT, b"texts, one in four with its report");
     tally::print(ledger, tally::PAIR, b"runs with a pair");
     tally::print(ledger, tally::SINGLE, b"runs with a single vector");
     tally::print(ledger, tally::NO_REMAINDER, b"runs with r = 0");

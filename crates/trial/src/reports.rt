@@ -127,7 +127,8 @@ fn put_answer(
     put_report(room, run, periods, weights, map)
 }
 
-// Whether the report on a text, if it is asked for, is as it is to be. Long ones are told by the checks of the list program.
+// Whether the report on a text, if it is asked for, is as it is to be. One with more than 12 sources or 1,024 cells is not looked at
+// here, but by the checks of the list program.
 pub fn report_agrees(
     asked: bool,
     text: &[u8],
