@@ -36,7 +36,7 @@ front-one {before} {now} {done} {n} v w h = record {
       ∙ ap (λ k. done ++ (v ∷ []) ++ drop k before) (sym (add-one n));
 }
 
--- a part more, up to place e, lent and come back
+-- a part more, up to e, lent and come back
 pub front-part : {before now done : List ℕ} {n : ℕ} (e : ℕ) (part : List ℕ) → Front before now done n → n ≤ e → e ≤ length before → length part ≡ e - n → Front before (putMid n (e - n) now part) (done ++ part) e
 front-part {before} {now} {done} {n} e part w h l k = record {
   size = let s = w .size in simp length-append (omega arith);
