@@ -1,9 +1,9 @@
--- The laws of `digits`: its last digit, its value and way back, its length, and that digits up to a byte that is none are read in one way.
+-- The laws of `digits`: its last digit, its value, its length, and that digits up to a byte that is none are read in one way.
 -- Assumes nothing.
 use Prim.Native.Nat.{ℕ, zero, suc, _+_, _*_, _-_, _/_, _%_, _<_, _≤_, _^_}
 use mathlib.Core.Path.{_≡_, refl, sym, ap, _∙_}
 use mathlib.Core.Bool.{Bool, true, false, _&&_, true≢false, false≢true}
-use mathlib.Core.List.{List, [], _∷_, _++_, append-assoc, append-nil, tail-eq-of-cons-eq}
+use mathlib.Core.List.{List, [], _∷_, _++_, tail-eq-of-cons-eq}
 use native.Mathlib.Nat.{pow-suc}
 use native.Mathlib.Decide.{decLt}
 use native.Mathlib.Omega.{arith}
@@ -64,7 +64,7 @@ digits-snoc v d hv hd =
     rw (digits-more (v * 10 + d) (omega arith), q, r)
 
 -- induction along the digits: below 10, and from n / 10 to n
-pub by-tens {ℓ} : (P : ℕ → Type ℓ) → ((n : ℕ) → n < 10 → P n) → ((n : ℕ) → 10 ≤ n → P (n / 10) → P n) → (n : ℕ) → P n
+by-tens {ℓ} : (P : ℕ → Type ℓ) → ((n : ℕ) → n < 10 → P n) → ((n : ℕ) → 10 ≤ n → P (n / 10) → P n) → (n : ℕ) → P n
 by-tens P one more n = go n n (omega arith)
   where
     go : (most m : ℕ) → m ≤ most → P m
@@ -102,24 +102,6 @@ length-le (suc k) n h =
 pub length-32 : (n : ℕ) → n ≤ largest → length (digits n) ≤ 10
 length-32 n h = length-le 9 n (omega arith)
 
--- a number of 64 bits has at most 20 digits
-pub length-64 : (n : ℕ) → n < 2 ^ 64 → length (digits n) ≤ 20
-length-64 n h = length-le 19 n (omega arith)
-
--- a smaller number has no more digits
-pub length-mono : (m n : ℕ) → m ≤ n → length (digits m) ≤ length (digits n)
-length-mono m n =
-    by-tens
-    (λ n. (m : ℕ) → m ≤ n → length (digits m) ≤ length (digits n))
-    (λ n h m l. omega (arith, length-one n h, length-one m (omega arith)))
-    (λ n h i m l.
-    elim (decLt m 10) [
-      | yes b ↦ omega (arith, length-one m b, length-pos n)
-      | no b ↦ omega (arith, i (m / 10) (omega arith), length-more m (omega arith), length-more n h)
-    ])
-    n
-    m
-
 -- ---- the value
 
 -- the value of a run of digits that follows the number a
@@ -132,17 +114,17 @@ abbrev pub value : List ℕ → ℕ
 value bs = valueFrom 0 bs
 
 -- digits after others go on from their value
-pub value-append : (a : ℕ) (xs ys : List ℕ) → valueFrom a (xs ++ ys) ≡ valueFrom (valueFrom a xs) ys
+value-append : (a : ℕ) (xs ys : List ℕ) → valueFrom a (xs ++ ys) ≡ valueFrom (valueFrom a xs) ys
 value-append a [] ys = refl
 value-append a (x ∷ xs) ys = value-append (a * 10 + (x - 48)) xs ys
 
 -- further digits make no number smaller
-pub value-grows : (a : ℕ) (bs : List ℕ) → a ≤ valueFrom a bs
+value-grows : (a : ℕ) (bs : List ℕ) → a ≤ valueFrom a bs
 value-grows a [] = omega arith
 value-grows a (b ∷ bs) = omega (arith, value-grows (a * 10 + (b - 48)) bs)
 
 -- the value of n's digits is n
-pub value-digits : (n : ℕ) → value (digits n) ≡ n
+value-digits : (n : ℕ) → value (digits n) ≡ n
 value-digits =
     by-tens
     (λ n. value (digits n) ≡ n)
@@ -154,10 +136,10 @@ pub value-snoc : (v d : ℕ) → value (digits v ++ ((48 + d) ∷ [])) ≡ v * 1
 value-snoc v d = value-append 0 (digits v) ((48 + d) ∷ []) ∙ omega (arith, value-digits v)
 
 -- two numbers with the same digits are the same
-pub digits-injective : (m n : ℕ) → digits m ≡ digits n → m ≡ n
+digits-injective : (m n : ℕ) → digits m ≡ digits n → m ≡ n
 digits-injective m n e = sym (value-digits m) ∙ ap value e ∙ value-digits n
 
--- ---- the way back
+-- ---- the digits
 
 -- every byte is a digit
 abbrev pub AllDigits : List ℕ → Type 0
@@ -197,7 +179,7 @@ begins-number n rest = go (digits n) (length-pos n) (digits-all n)
     go (b ∷ bs) h a = a .0
 
 -- only 0 begins with the byte `0`
-pub first-zero : (n : ℕ) → getD (digits n) 0 0 ≡ 48 → n ≡ 0
+first-zero : (n : ℕ) → getD (digits n) 0 0 ≡ 48 → n ≡ 0
 first-zero =
     by-tens
     (λ n. getD (digits n) 0 0 ≡ 48 → n ≡ 0)
@@ -206,42 +188,9 @@ first-zero =
     let tens = i (sym (ap (λ l. getD l 0 0) (digits-more n h) ∙ List·getD-append (digits (n / 10)) _ 0 0 (length-pos (n / 10))) ∙ e) in
     omega arith)
 
--- a run of digits, at least one, without leading zeros
-pub record Numeral (bs : List ℕ) : Type 0 where
-  pub some : 0 < length bs
-  pub all : AllDigits bs
-  pub first : 1 < length bs → getD bs 0 0 ≡ 48 → ⊥
-
--- n's digits are such a run
-pub digits-numeral : (n : ℕ) → Numeral (digits n)
-digits-numeral n =
-    record {
-      some = length-pos n;
-      all = digits-all n;
-      first = λ l e. let z = first-zero n e in omega (arith, length-one n (omega arith));
-    }
-
--- digits after those of v, which is not 0
-digits-run : (v : ℕ) (bs : List ℕ) → 0 < v → AllDigits bs → digits (valueFrom v bs) ≡ digits v ++ bs
-digits-run v [] h a = sym (append-nil (digits v))
-digits-run v (b ∷ bs) h a =
-    let d = digit-bounds b (a .0) in
-    let e : 48 + (b - 48) ≡ b = omega arith in
-    digits-run (v * 10 + (b - 48)) bs (omega arith) (a .1)
-    ∙ rw (digits-snoc v (b - 48) h (omega arith), e, append-assoc)
-
--- and every such run is the digits of its value
-pub digits-value : (bs : List ℕ) → Numeral bs → digits (value bs) ≡ bs
-digits-value [] h = absurd (omega (arith, h .some))
-digits-value (b ∷ []) h =
-    let d = digit-bounds b (h .all .0) in
-    digits-one (0 * 10 + (b - 48)) (omega arith) ∙ ap (λ k. k ∷ []) (omega arith)
-digits-value (b ∷ c ∷ bs) h =
-    let d = digit-bounds b (h .all .0) in
-    let e : 0 * 10 + (b - 48) ≡ b - 48 = omega arith in
-    let f : 48 + (b - 48) ≡ b = omega arith in
-    let pos : b ≡ 48 → ⊥ = h .first (omega arith) in
-    digits-run (0 * 10 + (b - 48)) (c ∷ bs) (omega arith) (h .all .1) ∙ rw (digits-one (0 * 10 + (b - 48)) (omega arith), e, f)
+-- no number of more than one digit does
+pub no-leading-zero : (n : ℕ) → 1 < length (digits n) → getD (digits n) 0 0 ≡ 48 → ⊥
+no-leading-zero n l e = let z = first-zero n e in omega (arith, length-one n (omega arith))
 
 -- ---- a run of digits in a text
 
@@ -255,7 +204,7 @@ run-prefix (x ∷ xs) (y ∷ ys) r s a e p =
     (more, cc)
 
 -- two runs of digits that each go on to a byte that is none, in one text, are the same
-pub run-split : (xs ys r s : List ℕ) → AllDigits xs → AllDigits ys → beginsWithDigit r ≡ false → beginsWithDigit s ≡ false
+run-split : (xs ys r s : List ℕ) → AllDigits xs → AllDigits ys → beginsWithDigit r ≡ false → beginsWithDigit s ≡ false
     → xs ++ r ≡ ys ++ s → (xs ≡ ys) × (r ≡ s)
 run-split [] [] r s a b d e p = (refl, p)
 run-split [] (y ∷ ys) r s a b d e p = absurd (true≢false (sym (b .0) ∙ sym (ap beginsWithDigit p) ∙ d))

@@ -1,4 +1,4 @@
--- A text is read in one way from each byte on; what a loop knows that passes one digit after the other: the number so far, and where none can stand;
+-- What a loop knows that passes one digit after the other: the number so far, and where none can stand;
 -- and so there is a reading everywhere.
 -- Assumes nothing.
 use Prim.Native.Nat.{ℕ, zero, suc, _+_, _*_, _-_, _<_, _≤_}
@@ -8,7 +8,7 @@ use mathlib.Core.List.{List, [], _∷_, _++_, append-assoc}
 use native.Mathlib.Numerals.{add-one}
 use native.Mathlib.Decide.{decLt, decLe}
 use native.Mathlib.Omega.{arith}
-use lib.ListN.{length, getD, drop, length-append, length-drop, drop-of-length-le}
+use lib.ListN.{length, getD, drop, length-append, drop-of-length-le}
 use lib.Seq.{drop-cons, drop-drop, drop-append-seam}
 use Rattle.decimal.specs.Digits.{largest, digits}
 use Rattle.decimal.specs.Inner.{isDigit, beginsWithDigit, NumberStands, Reading}
@@ -20,37 +20,13 @@ use Rattle.decimal.proofs.Laws.{
   digits-one,
   digits-snoc,
   digits-all,
-  digits-numeral,
-  digits-split,
+  no-leading-zero,
   all-append,
   begins-number,
-  length-pos,
   run-prefix,
   value-snoc,
   value-prefix,
 }
-
--- ---- there is one at most
-
--- two numbers that stand at the same byte are the same and end alike
-pub stands-unique : {text : List ℕ} {at v v′ next next′ : ℕ} → NumberStands text at v next → NumberStands text at v′ next′
-    → (v ≡ v′) × (next ≡ next′)
-stands-unique {text} {at} {v} {v′} {next} {next′} a b =
-    let e = digits-split v v′ (drop next text) (drop next′ text) (a .ended) (b .ended) (sym (a .spelled) ∙ b .spelled) .0 in
-    (e, a .ends ∙ ap (λ n. at + length (digits n)) e ∙ sym (b .ends))
-
--- no second reading fits
-pub number-unique : (text : List ℕ) (at : ℕ) (r r′ : Number) → Reading text at r → Reading text at r′ → r ≡ r′
-number-unique text at (Value v next) (Value v′ next′) a b = let e = stands-unique a b in cc
-number-unique text at (Value v next) Bad a b = absurd (b v next a)
-number-unique text at Bad (Value v next) a b = absurd (a v next b)
-number-unique text at Bad Bad a b = refl
-
--- a number that stands in a text ends within it
-pub stands-within : {text : List ℕ} {at v next : ℕ} → NumberStands text at v next → (at < next) × (next ≤ length text)
-stands-within {text} {at} {v} {next} s =
-    let l = simp (length-append, length-drop) at (ap length (s .spelled)) in
-    omega (arith, length-pos v, s .ends)
 
 -- a number and what follows it, wherever they are found, stand there
 pub stands : (text : List ℕ) (at v : ℕ) (rest : List ℕ) → v ≤ largest → drop at text ≡ digits v ++ rest
@@ -142,7 +118,7 @@ module _ {text : List ℕ} {at : ℕ} where
   leading-zero {v} {next} {d} p g z w n s =
       let (more, e) = begins p g s in
       let f : digits w ≡ (48 + v) ∷ (48 + d) ∷ more = e ∙ rw (digits-one v (omega arith)) refl in
-      digits-numeral w .first (omega (arith, ap length f)) (ap (λ l. getD l 0 0) f ∙ omega arith)
+      no-leading-zero w (omega (arith, ap length f)) (ap (λ l. getD l 0 0) f ∙ omega arith)
 
   -- where the digits passed and one digit more are too large
   pub too-large : {v next d : ℕ} → Passed text at v next → Digit text next d → largest < v * 10 + d → (w n : ℕ) → NumberStands text at w n → ⊥

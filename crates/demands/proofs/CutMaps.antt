@@ -1,13 +1,19 @@
 -- The maps of a cut's blocks: each block is a valid run and a block of the run (`ValidBlock`), each map as long as its block,
--- and together they are as long as the run's. Assumes nothing.
+-- together they are as long as the run's, and sources added to each are added to the run's. Assumes nothing.
 use Prim.Native.Nat.{ℕ, zero, suc, _+_, _-_, _*_, _≤_, _<_}
+use native.Mathlib.Nat.{zero-add}
 use native.Mathlib.Omega.{arith}
-use mathlib.Core.Path.{_≡_, refl, sym, ap, _∙_}
-use mathlib.Core.List.{List, [], _∷_}
+use mathlib.Core.Path.{_≡_, refl, sym, ap, ap₂, _∙_}
+use mathlib.Core.List.{List, [], _∷_, _++_}
 use lib.ListN.{length, getD, length-append}
 use Rattle.scope.specs.declared.Run.{Run}
 use Rattle.scope.specs.Run.{ValidRun, linesOf, cellsOf}
 use Rattle.scope.proofs.Numbering.{valid-block}
+use Rattle.sources.specs.Entry.{Entry}
+use Rattle.map.specs.Sum.{raised}
+use Rattle.map.specs.Promise.{weightAt, added}
+use Rattle.map.proofs.Raised.{raised-append, raised-move}
+use Rattle.map.proofs.Entries.{weight-shift}
 use Rattle.demands.specs.Cut.{CutFrom, Cut}
 use Rattle.demands.specs.Adding.{together, Maps}
 use Rattle.demands.proofs.Cuts.{piece-is, ValidBlock, before, before-first, before-piece, before-next}
@@ -37,7 +43,7 @@ module _ (run : Run) where
   map-at (block ∷ blocks) (map ∷ maps) s (suc k) h = map-at blocks maps (s .1) k (omega arith)
 
   -- the cells before a line and those of the block there are the cells before the next block
-  pub before-on : (line : ℕ) (block : Run) (blocks : List Run) → run .first ≤ line → CutFrom run line (block ∷ blocks) → before run (suc (block .last)) ≡ before run line + cellsOf block
+  before-on : (line : ℕ) (block : Run) (blocks : List Run) → run .first ≤ line → CutFrom run line (block ∷ blocks) → before run (suc (block .last)) ≡ before run line + cellsOf block
   before-on line block blocks low c = before-next (piece-is run blocks low c) (c .0 .ordered) ∙ ap (λ n. n + cellsOf block) (sym (before-piece (c .0)))
 
   rest-cells : (line : ℕ) (blocks : List Run) (maps : List (List ℕ)) → run .first ≤ line → CutFrom run line blocks → Maps blocks maps → length (together maps) + before run line ≡ cellsOf run
@@ -53,3 +59,26 @@ module _ (run : Run) where
   -- the blocks' cells are the run's
   pub cut-cells : ValidRun run → (blocks : List Run) (maps : List (List ℕ)) → Cut run blocks → Maps blocks maps → length (together maps) ≡ cellsOf run
   cut-cells v blocks maps c s = omega (arith, rest-cells (run .first) blocks maps (omega arith) c s, before-first run)
+
+  joins : ValidRun run → (c : ℕ) (sources : List Entry) (first : ℕ) (blocks : List Run) (maps after : List (List ℕ)) → run .first ≤ first → CutFrom run first blocks → Maps blocks maps → length after ≡ length blocks → ((k : ℕ) → k < length blocks → getD after k [] ≡ added c (getD blocks k run) sources (getD maps k [])) → together after ≡ raised c (weightAt run sources) (before run first) (together maps)
+  unfolding raised added
+  joins v c sources first [] [] [] low cut s l e = refl
+  joins v c sources first [] [] (a ∷ after) low cut s l e = absurd (omega arith)
+  joins v c sources first [] (map ∷ maps) after low cut s l e = absurd s
+  joins v c sources first (block ∷ blocks) [] after low cut s l e = absurd s
+  joins v c sources first (block ∷ blocks) (map ∷ maps) [] low cut s l e = absurd (omega arith)
+  joins v c sources first (block ∷ blocks) (map ∷ maps) (a ∷ after) low cut s l e =
+      let x = before run first in
+      let gain = weightAt run sources in
+      let one = piece-is run blocks low cut in
+      let here : a ≡ raised c gain x map =
+      e 0 (omega arith) ∙ raised-move c (weightAt block sources) gain 0 x map (λ i h. ap (weightAt block sources) (zero-add i) ∙ weight-shift v one sources i ∙ ap gain (omega (arith, before-piece (cut .0)))) in
+      let p = cut .0 in
+      let more = joins v c sources (suc (block .last)) blocks maps after (omega arith) (cut .1) (s .1) (omega arith) (λ k h. e (suc k) (omega arith)) in
+      let next : before run (suc (block .last)) ≡ x + length map = before-on first block blocks low cut ∙ ap (λ n. x + n) (sym (s .0)) in
+      ap₂ (λ (m n : List ℕ). m ++ n) here (rw next at more) ∙ sym (raised-append c gain x map (together maps))
+
+  -- maps with the sources added block by block are the run's map with the sources added
+  pub joined-added : ValidRun run → (c : ℕ) (sources : List Entry) (blocks : List Run) (maps after : List (List ℕ)) → Cut run blocks → Maps blocks maps → length after ≡ length blocks → ((k : ℕ) → k < length blocks → getD after k [] ≡ added c (getD blocks k run) sources (getD maps k [])) → together after ≡ added c run sources (together maps)
+  unfolding added
+  joined-added v c sources blocks maps after cut s l e = rw (before-first run) at (joins v c sources (run .first) blocks maps after (omega arith) cut s l e)

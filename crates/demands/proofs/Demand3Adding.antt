@@ -1,19 +1,19 @@
 -- Demand 3, the map: "Add the sources to the blocks in any order, each source once to each block, each call finding the map as
 -- the one before left it: every cell then holds what it held before plus the weights of all its hits, or 255 if that is more."
--- Over the promise of the map call alone, for every cut and every history of calls. Kept from call to call: the maps are as
--- long as their blocks, and what is still to be added is within the limits. Assumes nothing.
+-- Over the promise of the map call alone, for every cut, every history of calls and every ceiling. Kept from call to call: the maps
+-- are as long as their blocks, and what is still to be added is within the limits. Assumes nothing.
 use Prim.Native.Nat.{ℕ, zero, suc, _+_, _≤_, _<_}
 use native.Mathlib.Nat.{zero-add}
 use native.Mathlib.Decide.{ℕ-discrete}
 use native.Mathlib.Omega.{arith}
-use mathlib.Core.Path.{_≡_, refl, sym, ap, ap₂, _∙_}
+use mathlib.Core.Path.{_≡_, refl, sym, ap, _∙_}
 use mathlib.Core.Bool.{Bool, true, false, cond, not}
 use mathlib.Core.List.{List, [], _∷_, _++_, append-nil, List·Permᴰ, List·Permᴰ·nil, List·Permᴰ·cons, List·Permᴰ·swap, List·Permᴰ·trans, Permᴰ·refl}
 use lib.ListN.{length, getD, set, length-set}
 use lib.Seq.{getD-set-same, getD-set-other}
 use borrow.Author.Tests.{eq-eqb, ne-eqb}
 use Rattle.scope.specs.declared.Run.{Run}
-use Rattle.scope.specs.Run.{ValidRun, ceiling, UpTo, cellsOf}
+use Rattle.scope.specs.Run.{ValidRun, UpTo, cellsOf}
 use Rattle.scope.specs.Hit.{isHit}
 use Rattle.sources.specs.Entry.{Entry}
 use Rattle.scope.proofs.Judged.{Passes, sound, both}
@@ -21,18 +21,16 @@ use Rattle.scope.proofs.Limits.{valid-run-passes}
 use Rattle.scope.proofs.Hits.{hit-hits}
 use Rattle.map.specs.declared.Added.{Added}
 use Rattle.map.specs.declared.Added.the-variants.{Done}
-use Rattle.map.specs.Sum.{capped, raised}
-use Rattle.map.specs.Promise.{mapTests, weightAt, added, MapPromise}
-use Rattle.map.proofs.Raised.{raised-append, raised-move}
+use Rattle.map.specs.Sum.{capped}
+use Rattle.map.specs.Promise.{mapTests, weightAt, added, MapPromiseAt}
 use Rattle.sources.specs.Lists.{periodsOf, weightsOf, ValidEntries}
 use Rattle.sources.proofs.Entries.{valid-entries-pass, entries-of, periods-length, weights-length}
 use Rattle.map.proofs.Entries.{weight-shift, added-append, added-none, added-same, added-length, added-within, added-getD}
 use Rattle.map.proofs.Unique.{granted-call, stores-added, says-map-injective}
 use Rattle.demands.specs.FirstHit.{HitsCell}
-use Rattle.demands.specs.Cut.{CutFrom, Cut}
+use Rattle.demands.specs.Cut.{Cut}
 use Rattle.demands.specs.Adding.{together, Maps, Call, Keep, leave, addedTo, NoneRefused, History, Adds}
-use Rattle.demands.proofs.Cuts.{piece-is, before, before-first, before-piece}
-use Rattle.demands.proofs.CutMaps.{valid-at, maps-length, map-at, before-on, cut-cells}
+use Rattle.demands.proofs.CutMaps.{valid-at, maps-length, map-at, cut-cells, joined-added}
 
 -- ---- "the weights of all its hits"
 
@@ -52,246 +50,227 @@ weight-missed run entry entries x h = go (isHit run (entry .source) x) refl
 -- ---- reordered entries
 
 -- the order of the sources changes no cell
-pub weight-perm : (run : Run) {a b : List Entry} (x : ℕ) → List·Permᴰ a b → weightAt run a x ≡ weightAt run b x
+weight-perm : (run : Run) {a b : List Entry} (x : ℕ) → List·Permᴰ a b → weightAt run a x ≡ weightAt run b x
 unfolding weightAt
 weight-perm run x List·Permᴰ·nil = refl
 weight-perm run x (List·Permᴰ·cons e p) = rw (e, weight-perm run x p)
 weight-perm run x (List·Permᴰ·swap e f) = rw (e, f) (omega arith)
 weight-perm run x (List·Permᴰ·trans p q) = weight-perm run x p ∙ weight-perm run x q
 
-valid-perm : {a b : List Entry} → List·Permᴰ a b → ValidEntries ceiling b → ValidEntries ceiling a
-valid-perm List·Permᴰ·nil v = v
-valid-perm (List·Permᴰ·cons e p) v = (rw e (v .0), valid-perm p (v .1))
-valid-perm (List·Permᴰ·swap e f) v = (rw e (v .1 .0), (rw f (v .0), v .1 .1))
-valid-perm (List·Permᴰ·trans p q) v = valid-perm p (valid-perm q v)
+-- ---- at any ceiling c; demand 3's is `ceiling`
 
-valid-first : (a b : List Entry) → ValidEntries ceiling (a ++ b) → ValidEntries ceiling a
-valid-first [] b v = tt
-valid-first (e ∷ a) b v = (v .0, valid-first a b (v .1))
+module _ (c : ℕ) where
+  valid-perm : {a b : List Entry} → List·Permᴰ a b → ValidEntries c b → ValidEntries c a
+  valid-perm List·Permᴰ·nil v = v
+  valid-perm (List·Permᴰ·cons e p) v = (rw e (v .0), valid-perm p (v .1))
+  valid-perm (List·Permᴰ·swap e f) v = (rw e (v .1 .0), (rw f (v .0), v .1 .1))
+  valid-perm (List·Permᴰ·trans p q) v = valid-perm p (valid-perm q v)
 
-valid-second : (a b : List Entry) → ValidEntries ceiling (a ++ b) → ValidEntries ceiling b
-valid-second [] b v = v
-valid-second (e ∷ a) b v = valid-second a b (v .1)
+  valid-first : (a b : List Entry) → ValidEntries c (a ++ b) → ValidEntries c a
+  valid-first [] b v = tt
+  valid-first (e ∷ a) b v = (v .0, valid-first a b (v .1))
 
--- ---- a call's lists
+  valid-second : (a b : List Entry) → ValidEntries c (a ++ b) → ValidEntries c b
+  valid-second [] b v = v
+  valid-second (e ∷ a) b v = valid-second a b (v .1)
 
--- nothing is wrong with a call of entries within the limits on a map of the exact length
-call-passes : {block : Run} (entries : List Entry) (map : List ℕ) → ValidRun block → ValidEntries ceiling entries → length map ≡ cellsOf block → Passes (mapTests ceiling block (periodsOf entries) (weightsOf entries) map)
-unfolding mapTests
-call-passes entries map v w e =
-    both
-    (both
-    (both (valid-run-passes v) (sound (ap not (eq-eqb _ _ ((periods-length entries ∙ sym (weights-length entries)))))))
-    (rw (entries-of entries) (valid-entries-pass ceiling 1 entries w)))
-    (sound (ap not (eq-eqb _ _ e)))
+  -- ---- a call's lists
 
--- such a call, if it keeps its promise, is not refused and adds its entries
-call-adds : {block : Run} (entries : List Entry) {map : List ℕ} {answer : Added} {after : List ℕ} → ValidRun block → ValidEntries ceiling entries → length map ≡ cellsOf block → MapPromise block (periodsOf entries) (weightsOf entries) map answer after → (answer ≡ Done) × (after ≡ added ceiling block entries map)
-call-adds {block} entries {map} {answer} {after} v w e m =
-    let got = stores-added (call-passes entries map v w e) m in
-    (says-map-injective answer Done (got .0), got .1 ∙ ap (λ (l : List Entry). added ceiling block l map) (entries-of entries))
+  -- nothing is wrong with a call of entries within the limits on a map of the exact length
+  call-passes : {block : Run} (entries : List Entry) (map : List ℕ) → ValidRun block → ValidEntries c entries → length map ≡ cellsOf block → Passes (mapTests c block (periodsOf entries) (weightsOf entries) map)
+  unfolding mapTests
+  call-passes entries map v w e =
+      both
+      (both
+      (both (valid-run-passes v) (sound (ap not (eq-eqb _ _ ((periods-length entries ∙ sym (weights-length entries)))))))
+      (rw (entries-of entries) (valid-entries-pass c 1 entries w)))
+      (sound (ap not (eq-eqb _ _ e)))
 
--- ---- a history, call after call
+  -- such a call, if it keeps its promise, is not refused and adds its entries
+  call-adds : {block : Run} (entries : List Entry) {map : List ℕ} {answer : Added} {after : List ℕ} → ValidRun block → ValidEntries c entries → length map ≡ cellsOf block → MapPromiseAt c block (periodsOf entries) (weightsOf entries) map answer after → (answer ≡ Done) × (after ≡ added c block entries map)
+  call-adds {block} entries {map} {answer} {after} v w e m =
+      let got = stores-added (call-passes entries map v w e) m in
+      (says-map-injective answer Done (got .0), got .1 ∙ ap (λ (l : List Entry). added c block l map) (entries-of entries))
 
-to-this : (call : Call) (calls : List Call) (k : ℕ) → call .block ≡ k → addedTo k (call ∷ calls) ≡ call .entries ++ addedTo k calls
-unfolding addedTo
-to-this call calls k e = rw (eq-eqb _ _ e)
+  -- ---- a history, call after call
 
-to-other : (call : Call) (calls : List Call) (k : ℕ) → (call .block ≡ k → ⊥) → addedTo k (call ∷ calls) ≡ addedTo k calls
-unfolding addedTo
-to-other call calls k e = rw (ne-eqb _ _ e)
-
-module _ (run : Run) (blocks : List Run) (valid : (k : ℕ) → k < length blocks → ValidRun (getD blocks k run)) where
-  -- what holds of the blocks' maps between two calls
-  record State (maps : List (List ℕ)) : Type 0 where
-    as-many : length maps ≡ length blocks
-    sized : (k : ℕ) → k < length blocks → length (getD maps k []) ≡ cellsOf (getD blocks k run)
-    bytes : (k : ℕ) → UpTo ceiling (getD maps k [])
-
-  -- every entry still to be added is within the limits
-  Left : List Call → Type 0
-  Left calls = (k : ℕ) → k < length blocks → ValidEntries ceiling (addedTo k calls)
-
-  module _ (call : Call) (calls : List Call) (inside : call .block < length blocks) (left : Left (call ∷ calls)) where
-    own : ValidEntries ceiling (call .entries)
-    unfolding Left
-    own = valid-first (call .entries) (addedTo (call .block) calls) (rw (to-this call calls (call .block) refl) at (left (call .block) inside))
-
-    next-left : Left calls
-    unfolding Left
-    next-left k h = go (ℕ-discrete (call .block) k)
-      where
-        go : Dec (call .block ≡ k) → ValidEntries ceiling (addedTo k calls)
-        go (yes e) = valid-second (call .entries) (addedTo k calls) (rw (to-this call calls k e) at (left k h))
-        go (no e) = rw (to-other call calls k e) at (left k h)
-
-  module _ (call : Call) (maps : List (List ℕ)) (state : State maps) (inside : call .block < length blocks) (adds : call .after ≡ added ceiling (getD blocks (call .block) run) (call .entries) (getD maps (call .block) [])) where
-    here : getD (set maps (call .block) (call .after)) (call .block) [] ≡ call .after
-    here = let l = state .as-many in getD-set-same maps (call .block) (call .after) [] (omega arith)
-
-    elsewhere : (k : ℕ) → (call .block ≡ k → ⊥) → getD (set maps (call .block) (call .after)) k [] ≡ getD maps k []
-    elsewhere k e = getD-set-other maps (call .block) k (call .after) [] (λ f. e (sym f))
-
-    next-state : State (set maps (call .block) (call .after))
-    next-state =
-        record {
-          as-many = length-set maps (call .block) (call .after) ∙ state .as-many;
-          sized = λ k h. size k h (ℕ-discrete (call .block) k);
-          bytes = λ k. small k (ℕ-discrete (call .block) k);
-        }
-      where
-        size : (k : ℕ) → k < length blocks → Dec (call .block ≡ k) → length (getD (set maps (call .block) (call .after)) k []) ≡ cellsOf (getD blocks k run)
-        size k h (yes e) = rw (← e, here, adds) (added-length ceiling _ (call .entries) _ ∙ state .sized (call .block) inside)
-        size k h (no e) = rw (elsewhere k e) (state .sized k h)
-
-        small : (k : ℕ) → Dec (call .block ≡ k) → UpTo ceiling (getD (set maps (call .block) (call .after)) k [])
-        small k (yes e) = rw (← e, here, adds) (added-within ceiling _ (call .entries) _)
-        small k (no e) = rw (elsewhere k e) (state .bytes k)
-
-    -- what the later calls make of block k, the call before them counted in
-    and-this : (calls : List Call) (k : ℕ) {end : List ℕ} → end ≡ added ceiling (getD blocks k run) (addedTo k calls) (getD (set maps (call .block) (call .after)) k []) → end ≡ added ceiling (getD blocks k run) (addedTo k (call ∷ calls)) (getD maps k [])
-    and-this calls k {end} f = go (ℕ-discrete (call .block) k)
-      where
-        go : Dec (call .block ≡ k) → end ≡ added ceiling (getD blocks k run) (addedTo k (call ∷ calls)) (getD maps k [])
-        go (yes e) =
-            let there : getD (set maps (call .block) (call .after)) k [] ≡ added ceiling (getD blocks k run) (call .entries) (getD maps k []) = rw (← e) (here ∙ adds) in
-            f
-            ∙ ap (added ceiling (getD blocks k run) (addedTo k calls)) there
-            ∙ added-append ceiling (getD blocks k run) (call .entries) (addedTo k calls) (getD maps k [])
-            ∙ ap (λ l. added ceiling (getD blocks k run) l (getD maps k [])) (sym (to-this call calls k e))
-        go (no e) =
-            f
-            ∙ ap (added ceiling (getD blocks k run) (addedTo k calls)) (elsewhere k e)
-            ∙ ap (λ l. added ceiling (getD blocks k run) l (getD maps k [])) (sym (to-other call calls k e))
-
-  -- no call is refused, and each block ends with all its entries added
-  pub record Outcome (maps : List (List ℕ)) (calls : List Call) : Type 0 where
-    pub done : NoneRefused calls
-    pub as-many : length (leave maps calls) ≡ length maps
-    pub ends : (k : ℕ) → k < length blocks → getD (leave maps calls) k [] ≡ added ceiling (getD blocks k run) (addedTo k calls) (getD maps k [])
-
-  outcome : (calls : List Call) (maps : List (List ℕ)) → State maps → Keep run blocks maps calls → Left calls → Outcome maps calls
+  to-this : (call : Call) (calls : List Call) (k : ℕ) → call .block ≡ k → addedTo k (call ∷ calls) ≡ call .entries ++ addedTo k calls
   unfolding addedTo
-  outcome [] maps state keep left = record { done = tt; as-many = refl; ends = λ k h. sym (added-none ceiling (getD blocks k run) (getD maps k []) (state .bytes k)) }
-  outcome (call ∷ calls) maps state keep left =
-      let inside = keep .0 in
-      let got = call-adds (call .entries) (valid (call .block) inside) (own call calls inside left) (state .sized (call .block) inside) (keep .1) in
-      let more = outcome calls (set maps (call .block) (call .after)) (next-state call maps state inside (got .1)) (keep .2) (next-left call calls inside left) in
+  to-this call calls k e = rw (eq-eqb _ _ e)
+
+  to-other : (call : Call) (calls : List Call) (k : ℕ) → (call .block ≡ k → ⊥) → addedTo k (call ∷ calls) ≡ addedTo k calls
+  unfolding addedTo
+  to-other call calls k e = rw (ne-eqb _ _ e)
+
+  module _ (run : Run) (blocks : List Run) (valid : (k : ℕ) → k < length blocks → ValidRun (getD blocks k run)) where
+    -- what holds of the blocks' maps between two calls
+    record State (maps : List (List ℕ)) : Type 0 where
+      as-many : length maps ≡ length blocks
+      sized : (k : ℕ) → k < length blocks → length (getD maps k []) ≡ cellsOf (getD blocks k run)
+      small : (k : ℕ) → UpTo c (getD maps k [])
+
+    -- every entry still to be added is within the limits
+    Left : List Call → Type 0
+    Left calls = (k : ℕ) → k < length blocks → ValidEntries c (addedTo k calls)
+
+    module _ (call : Call) (calls : List Call) (inside : call .block < length blocks) (left : Left (call ∷ calls)) where
+      own : ValidEntries c (call .entries)
+      unfolding Left
+      own = valid-first (call .entries) (addedTo (call .block) calls) (rw (to-this call calls (call .block) refl) at (left (call .block) inside))
+
+      next-left : Left calls
+      unfolding Left
+      next-left k h = go (ℕ-discrete (call .block) k)
+        where
+          go : Dec (call .block ≡ k) → ValidEntries c (addedTo k calls)
+          go (yes e) = valid-second (call .entries) (addedTo k calls) (rw (to-this call calls k e) at (left k h))
+          go (no e) = rw (to-other call calls k e) at (left k h)
+
+    module _ (call : Call) (maps : List (List ℕ)) (state : State maps) (inside : call .block < length blocks) (adds : call .after ≡ added c (getD blocks (call .block) run) (call .entries) (getD maps (call .block) [])) where
+      here : getD (set maps (call .block) (call .after)) (call .block) [] ≡ call .after
+      here = let l = state .as-many in getD-set-same maps (call .block) (call .after) [] (omega arith)
+
+      elsewhere : (k : ℕ) → (call .block ≡ k → ⊥) → getD (set maps (call .block) (call .after)) k [] ≡ getD maps k []
+      elsewhere k e = getD-set-other maps (call .block) k (call .after) [] (λ f. e (sym f))
+
+      next-state : State (set maps (call .block) (call .after))
+      next-state =
+          record {
+            as-many = length-set maps (call .block) (call .after) ∙ state .as-many;
+            sized = λ k h. size k h (ℕ-discrete (call .block) k);
+            small = λ k. low k (ℕ-discrete (call .block) k);
+          }
+        where
+          size : (k : ℕ) → k < length blocks → Dec (call .block ≡ k) → length (getD (set maps (call .block) (call .after)) k []) ≡ cellsOf (getD blocks k run)
+          size k h (yes e) = rw (← e, here, adds) (added-length c _ (call .entries) _ ∙ state .sized (call .block) inside)
+          size k h (no e) = rw (elsewhere k e) (state .sized k h)
+
+          low : (k : ℕ) → Dec (call .block ≡ k) → UpTo c (getD (set maps (call .block) (call .after)) k [])
+          low k (yes e) = rw (← e, here, adds) (added-within c _ (call .entries) _)
+          low k (no e) = rw (elsewhere k e) (state .small k)
+
+      -- what the later calls make of block k, the call before them counted in
+      and-this : (calls : List Call) (k : ℕ) {end : List ℕ} → end ≡ added c (getD blocks k run) (addedTo k calls) (getD (set maps (call .block) (call .after)) k []) → end ≡ added c (getD blocks k run) (addedTo k (call ∷ calls)) (getD maps k [])
+      and-this calls k {end} f = go (ℕ-discrete (call .block) k)
+        where
+          go : Dec (call .block ≡ k) → end ≡ added c (getD blocks k run) (addedTo k (call ∷ calls)) (getD maps k [])
+          go (yes e) =
+              let there : getD (set maps (call .block) (call .after)) k [] ≡ added c (getD blocks k run) (call .entries) (getD maps k []) = rw (← e) (here ∙ adds) in
+              f
+              ∙ ap (added c (getD blocks k run) (addedTo k calls)) there
+              ∙ added-append c (getD blocks k run) (call .entries) (addedTo k calls) (getD maps k [])
+              ∙ ap (λ l. added c (getD blocks k run) l (getD maps k [])) (sym (to-this call calls k e))
+          go (no e) =
+              f
+              ∙ ap (added c (getD blocks k run) (addedTo k calls)) (elsewhere k e)
+              ∙ ap (λ l. added c (getD blocks k run) l (getD maps k [])) (sym (to-other call calls k e))
+
+    -- no call is refused, and each block ends with all its entries added
+    record Outcome (maps : List (List ℕ)) (calls : List Call) : Type 0 where
+      done : NoneRefused calls
+      as-many : length (leave maps calls) ≡ length maps
+      ends : (k : ℕ) → k < length blocks → getD (leave maps calls) k [] ≡ added c (getD blocks k run) (addedTo k calls) (getD maps k [])
+
+    outcome : (calls : List Call) (maps : List (List ℕ)) → State maps → Keep c run blocks maps calls → Left calls → Outcome maps calls
+    unfolding addedTo
+    outcome [] maps state keep left = record { done = tt; as-many = refl; ends = λ k h. sym (added-none c (getD blocks k run) (getD maps k []) (state .small k)) }
+    outcome (call ∷ calls) maps state keep left =
+        let inside = keep .0 in
+        let got = call-adds (call .entries) (valid (call .block) inside) (own call calls inside left) (state .sized (call .block) inside) (keep .1) in
+        let more = outcome calls (set maps (call .block) (call .after)) (next-state call maps state inside (got .1)) (keep .2) (next-left call calls inside left) in
+        record {
+          done = (got .0, more .done);
+          as-many = more .as-many ∙ length-set maps (call .block) (call .after);
+          ends = λ k h. and-this call maps state inside (got .1) calls k (more .ends k h);
+        }
+
+  -- ---- the demand
+
+  -- "Add the sources to the blocks in any order, each source once to each block": no call is refused, and "every cell then holds
+  -- what it held before plus the weights of all its hits, or 255 if that is more".
+  pub blocks-add : {run : Run} {blocks : List Run} {sources : List Entry} {maps : List (List ℕ)} {calls : List Call} → History c run blocks sources maps calls → Adds c run blocks sources maps calls
+  unfolding Left added
+  blocks-add {run} {blocks} {sources} {maps} {calls} h =
+      let at = valid-at run (h .valid) blocks (h .cut) in
+      let valid : (k : ℕ) → k < length blocks → ValidRun (getD blocks k run) = λ k i. at k i .valid in
+      let state : State run blocks valid maps = record { as-many = maps-length run blocks maps (h .sized); sized = map-at run blocks maps (h .sized); small = h .small } in
+      let out = outcome run blocks valid calls maps state (h .keep) (λ k i. valid-perm (h .once k i) (h .within)) in
+      let each : (k : ℕ) → k < length blocks → getD (leave maps calls) k [] ≡ added c (getD blocks k run) sources (getD maps k []) =
+      λ k i. out .ends k i ∙ added-same c (getD blocks k run) (addedTo k calls) sources (getD maps k []) (λ x j. weight-perm (getD blocks k run) x (h .once k i)) in
+      let whole = joined-added run (h .valid) c sources blocks maps (leave maps calls) (h .cut) (h .sized) (out .as-many ∙ state .as-many) each in
+      let cells = cut-cells run (h .valid) blocks maps (h .cut) (h .sized) in
       record {
-        done = (got .0, more .done);
-        as-many = more .as-many ∙ length-set maps (call .block) (call .after);
-        ends = λ k h. and-this call maps state inside (got .1) calls k (more .ends k h);
+        none-refused = out .done;
+        cells = cells;
+        whole = whole;
+        every-cell = λ y i. ap (λ (l : List ℕ). getD l (y .0) 0) whole ∙ added-getD c run sources (together maps) (y .0) (omega arith);
+        every-block = λ k i x j.
+            ap (λ (l : List ℕ). getD l (x .0) 0) (each k i)
+            ∙ added-getD c (getD blocks k run) sources (getD maps k []) (x .0) (omega (arith, state .sized k i))
+            ∙ ap (λ n. capped c (getD (getD maps k []) (x .0) 0 + n)) (weight-shift (h .valid) (at k i .is) sources (x .0));
       }
 
--- ---- from the blocks to the run
+  -- "The certificate then compares readings that don't belong together": not so. Two cuts and two histories of the same sources,
+  -- from equal cells of the run, end in equal cells of the run.
+  pub same-cells : {run : Run} {sources : List Entry} {blocks other : List Run} {maps maps′ : List (List ℕ)} {calls calls′ : List Call} → History c run blocks sources maps calls → History c run other sources maps′ calls′ → together maps ≡ together maps′ → together (leave maps calls) ≡ together (leave maps′ calls′)
+  same-cells {run} {sources} h h′ e = blocks-add h .whole ∙ ap (added c run sources) e ∙ sym (blocks-add h′ .whole)
 
-joins : (run : Run) → ValidRun run → (sources : List Entry) (first : ℕ) (blocks : List Run) (maps after : List (List ℕ)) → run .first ≤ first → CutFrom run first blocks → Maps blocks maps → length after ≡ length blocks → ((k : ℕ) → k < length blocks → getD after k [] ≡ added ceiling (getD blocks k run) sources (getD maps k [])) → together after ≡ raised ceiling (weightAt run sources) (before run first) (together maps)
-unfolding raised added
-joins run v sources first [] [] [] low c s l e = refl
-joins run v sources first [] [] (a ∷ after) low c s l e = absurd (omega arith)
-joins run v sources first [] (map ∷ maps) after low c s l e = absurd s
-joins run v sources first (block ∷ blocks) [] after low c s l e = absurd s
-joins run v sources first (block ∷ blocks) (map ∷ maps) [] low c s l e = absurd (omega arith)
-joins run v sources first (block ∷ blocks) (map ∷ maps) (a ∷ after) low c s l e =
-    let x = before run first in
-    let gain = weightAt run sources in
-    let one = piece-is run blocks low c in
-    let here : a ≡ raised ceiling gain x map =
-    e 0 (omega arith) ∙ raised-move ceiling (weightAt block sources) gain 0 x map (λ i h. ap (weightAt block sources) (zero-add i) ∙ weight-shift v one sources i ∙ ap gain (omega (arith, before-piece (c .0)))) in
-    let p = c .0 in
-    let more = joins run v sources (suc (block .last)) blocks maps after (omega arith) (c .1) (s .1) (omega arith) (λ k h. e (suc k) (omega arith)) in
-    let next : before run (suc (block .last)) ≡ x + length map = before-on run first block blocks low c ∙ ap (λ n. x + n) (sym (s .0)) in
-    ap₂ (λ (m n : List ℕ). m ++ n) here (rw next at more) ∙ sym (raised-append ceiling gain x map (together maps))
+  -- ---- there is such a history: block after block, from the last one down, each with all sources in one call
 
--- ---- the demand
+  -- A call on the maps as they are, with the outcome that its promise admits.
+  abbrev call-on : Run → List Run → List Entry → List (List ℕ) → ℕ → Call
+  call-on run blocks sources maps k = record { block = k; entries = sources; answer = Done; after = added c (getD blocks k run) sources (getD maps k []) }
 
--- "Add the sources to the blocks in any order, each source once to each block": no call is refused, and "every cell then holds
--- what it held before plus the weights of all its hits, or 255 if that is more".
-pub blocks-add : {run : Run} {blocks : List Run} {sources : List Entry} {maps : List (List ℕ)} {calls : List Call} → History run blocks sources maps calls → Adds run blocks sources maps calls
-unfolding Left added
-blocks-add {run} {blocks} {sources} {maps} {calls} h =
-    let at = valid-at run (h .valid) blocks (h .cut) in
-    let valid : (k : ℕ) → k < length blocks → ValidRun (getD blocks k run) = λ k i. at k i .valid in
-    let state : State run blocks valid maps = record { as-many = maps-length run blocks maps (h .sized); sized = map-at run blocks maps (h .sized); bytes = h .bytes } in
-    let out = outcome run blocks valid calls maps state (h .keep) (λ k i. valid-perm (h .once k i) (h .within)) in
-    let each : (k : ℕ) → k < length blocks → getD (leave maps calls) k [] ≡ added ceiling (getD blocks k run) sources (getD maps k []) =
-    λ k i. out .ends k i ∙ added-same ceiling (getD blocks k run) (addedTo k calls) sources (getD maps k []) (λ x j. weight-perm (getD blocks k run) x (h .once k i)) in
-    let whole : together (leave maps calls) ≡ added ceiling run sources (together maps) =
-    rw (before-first run) at
-    (joins run (h .valid) sources (run .first) blocks maps (leave maps calls) (omega arith) (h .cut) (h .sized) (out .as-many ∙ state .as-many) each) in
-    let cells = cut-cells run (h .valid) blocks maps (h .cut) (h .sized) in
-    record {
-      none-refused = out .done;
-      cells = cells;
-      whole = whole;
-      every-cell = λ y i. ap (λ (l : List ℕ). getD l (y .0) 0) whole ∙ added-getD ceiling run sources (together maps) (y .0) (omega arith);
-      every-block = λ k i x j.
-          ap (λ (l : List ℕ). getD l (x .0) 0) (each k i)
-          ∙ added-getD ceiling (getD blocks k run) sources (getD maps k []) (x .0) (omega (arith, state .sized k i))
-          ∙ ap (λ n. capped ceiling (getD (getD maps k []) (x .0) 0 + n)) (weight-shift (h .valid) (at k i .is) sources (x .0));
-    }
+  -- The calls on the first n blocks, from the last of them down.
+  abbrev calls-on : Run → List Run → List Entry → List (List ℕ) → ℕ → List Call
+  calls-on run blocks sources maps zero = []
+  calls-on run blocks sources maps (suc n) =
+      let call = call-on run blocks sources maps n in
+      call ∷ calls-on run blocks sources (set maps n (call .after)) n
 
--- "The certificate then compares readings that don't belong together": not so. Two cuts and two histories of the same sources,
--- from equal cells of the run, end in equal cells of the run.
-pub same-cells : {run : Run} {sources : List Entry} {blocks other : List Run} {maps maps′ : List (List ℕ)} {calls calls′ : List Call} → History run blocks sources maps calls → History run other sources maps′ calls′ → together maps ≡ together maps′ → together (leave maps calls) ≡ together (leave maps′ calls′)
-same-cells {run} {sources} h h′ e = blocks-add h .whole ∙ ap (added ceiling run sources) e ∙ sym (blocks-add h′ .whole)
+  to-later : (run : Run) (blocks : List Run) (sources : List Entry) (n : ℕ) (maps : List (List ℕ)) (k : ℕ) → n ≤ k → addedTo k (calls-on run blocks sources maps n) ≡ []
+  unfolding addedTo
+  to-later run blocks sources zero maps k h = refl
+  to-later run blocks sources (suc n) maps k h =
+      let call = call-on run blocks sources maps n in
+      to-other call (calls-on run blocks sources (set maps n (call .after)) n) k (λ e. omega arith) ∙ to-later run blocks sources n (set maps n (call .after)) k (omega arith)
 
--- ---- there is such a history: block after block, from the last one down, each with all sources in one call
+  to-each : (run : Run) (blocks : List Run) (sources : List Entry) (n : ℕ) (maps : List (List ℕ)) (k : ℕ) → k < n → addedTo k (calls-on run blocks sources maps n) ≡ sources
+  to-each run blocks sources zero maps k h = absurd (omega arith)
+  to-each run blocks sources (suc n) maps k h = go (ℕ-discrete n k) (λ i. to-each run blocks sources n maps′ k i)
+    where
+      maps′ : List (List ℕ)
+      maps′ = set maps n (added c (getD blocks n run) sources (getD maps n []))
 
--- A call on the maps as they are, with the outcome that its promise admits.
-abbrev call-on : Run → List Run → List Entry → List (List ℕ) → ℕ → Call
-call-on run blocks sources maps k = record { block = k; entries = sources; answer = Done; after = added ceiling (getD blocks k run) sources (getD maps k []) }
+      go : Dec (n ≡ k) → (k < n → addedTo k (calls-on run blocks sources maps′ n) ≡ sources) → addedTo k (calls-on run blocks sources maps (suc n)) ≡ sources
+      go (yes e) more = to-this (call-on run blocks sources maps n) (calls-on run blocks sources maps′ n) k e ∙ ap (λ l. sources ++ l) (to-later run blocks sources n maps′ k (omega arith)) ∙ append-nil sources
+      go (no e) more = to-other (call-on run blocks sources maps n) (calls-on run blocks sources maps′ n) k e ∙ more (omega arith)
 
--- The calls on the first n blocks, from the last of them down.
-abbrev calls-on : Run → List Run → List Entry → List (List ℕ) → ℕ → List Call
-calls-on run blocks sources maps zero = []
-calls-on run blocks sources maps (suc n) =
-    let call = call-on run blocks sources maps n in
-    call ∷ calls-on run blocks sources (set maps n (call .after)) n
+  keep-each : (run : Run) (blocks : List Run) (valid : (k : ℕ) → k < length blocks → ValidRun (getD blocks k run)) (sources : List Entry) → ValidEntries c sources → (n : ℕ) (maps : List (List ℕ)) → n ≤ length blocks → State run blocks valid maps → Keep c run blocks maps (calls-on run blocks sources maps n)
+  keep-each run blocks valid sources w zero maps h state = tt
+  keep-each run blocks valid sources w (suc n) maps h state =
+      let call = call-on run blocks sources maps n in
+      let block = getD blocks n run in
+      let map = getD maps n [] in (
+        omega arith,
+        granted-call (call-passes sources map (valid n (omega arith)) w (state .sized n (omega arith))) (ap (λ (l : List Entry). added c block l map) (sym (entries-of sources))),
+        keep-each run blocks valid sources w n (set maps n (call .after)) (omega arith) (next-state run blocks valid call maps state (omega arith) refl),
+      )
 
-to-later : (run : Run) (blocks : List Run) (sources : List Entry) (n : ℕ) (maps : List (List ℕ)) (k : ℕ) → n ≤ k → addedTo k (calls-on run blocks sources maps n) ≡ []
-unfolding addedTo
-to-later run blocks sources zero maps k h = refl
-to-later run blocks sources (suc n) maps k h =
-    let call = call-on run blocks sources maps n in
-    to-other call (calls-on run blocks sources (set maps n (call .after)) n) k (λ e. omega arith) ∙ to-later run blocks sources n (set maps n (call .after)) k (omega arith)
-
-to-each : (run : Run) (blocks : List Run) (sources : List Entry) (n : ℕ) (maps : List (List ℕ)) (k : ℕ) → k < n → addedTo k (calls-on run blocks sources maps n) ≡ sources
-to-each run blocks sources zero maps k h = absurd (omega arith)
-to-each run blocks sources (suc n) maps k h = go (ℕ-discrete n k) (λ i. to-each run blocks sources n maps′ k i)
-  where
-    maps′ : List (List ℕ)
-    maps′ = set maps n (added ceiling (getD blocks n run) sources (getD maps n []))
-
-    go : Dec (n ≡ k) → (k < n → addedTo k (calls-on run blocks sources maps′ n) ≡ sources) → addedTo k (calls-on run blocks sources maps (suc n)) ≡ sources
-    go (yes e) more = to-this (call-on run blocks sources maps n) (calls-on run blocks sources maps′ n) k e ∙ ap (λ l. sources ++ l) (to-later run blocks sources n maps′ k (omega arith)) ∙ append-nil sources
-    go (no e) more = to-other (call-on run blocks sources maps n) (calls-on run blocks sources maps′ n) k e ∙ more (omega arith)
-
-keep-each : (run : Run) (blocks : List Run) (valid : (k : ℕ) → k < length blocks → ValidRun (getD blocks k run)) (sources : List Entry) → ValidEntries ceiling sources → (n : ℕ) (maps : List (List ℕ)) → n ≤ length blocks → State run blocks valid maps → Keep run blocks maps (calls-on run blocks sources maps n)
-keep-each run blocks valid sources w zero maps h state = tt
-keep-each run blocks valid sources w (suc n) maps h state =
-    let call = call-on run blocks sources maps n in
-    let block = getD blocks n run in
-    let map = getD maps n [] in (
-      omega arith,
-      granted-call (call-passes sources map (valid n (omega arith)) w (state .sized n (omega arith))) (ap (λ (l : List Entry). added ceiling block l map) (sym (entries-of sources))),
-      keep-each run blocks valid sources w n (set maps n (call .after)) (omega arith) (next-state run blocks valid call maps state (omega arith) refl),
-    )
-
--- For every valid run, every cut of it, all sources within the limits and all maps of bytes of the exact length there is one
--- history at least, the one above: it shows that the theorems over histories are not empty, and no more. That other orders, with
--- the sources spread over more calls, add up too is what `blocks-add` says of every history.
-pub history-exists : {run : Run} {blocks : List Run} {sources : List Entry} {maps : List (List ℕ)} → ValidRun run → Cut run blocks → ValidEntries ceiling sources → Maps blocks maps → ((k : ℕ) → UpTo ceiling (getD maps k [])) → (calls : List Call) × History run blocks sources maps calls
-history-exists {run} {blocks} {sources} {maps} v cut w sized bytes =
-    let valid : (k : ℕ) → k < length blocks → ValidRun (getD blocks k run) = λ k i. valid-at run v blocks cut k i .valid in (
-      calls-on run blocks sources maps (length blocks),
-      record {
-        valid = v;
-        cut = cut;
-        within = w;
-        sized = sized;
-        bytes = bytes;
-        keep = keep-each run blocks valid sources w (length blocks) maps (omega arith) (record { as-many = maps-length run blocks maps sized; sized = map-at run blocks maps sized; bytes = bytes });
-        once = λ k h. rw (to-each run blocks sources (length blocks) maps k h) (Permᴰ·refl sources);
-      },
-    )
+  -- For every valid run, every cut of it, all sources within the limits and all maps of bytes of the exact length there is one
+  -- history at least, the one above: it shows that the theorems over histories are not empty, and no more. That other orders, with
+  -- the sources spread over more calls, add up too is what `blocks-add` says of every history.
+  pub history-exists : {run : Run} {blocks : List Run} {sources : List Entry} {maps : List (List ℕ)} → ValidRun run → Cut run blocks → ValidEntries c sources → Maps blocks maps → ((k : ℕ) → UpTo c (getD maps k [])) → (calls : List Call) × History c run blocks sources maps calls
+  history-exists {run} {blocks} {sources} {maps} v cut w sized small =
+      let valid : (k : ℕ) → k < length blocks → ValidRun (getD blocks k run) = λ k i. valid-at run v blocks cut k i .valid in (
+        calls-on run blocks sources maps (length blocks),
+        record {
+          valid = v;
+          cut = cut;
+          within = w;
+          sized = sized;
+          small = small;
+          keep = keep-each run blocks valid sources w (length blocks) maps (omega arith) (record { as-many = maps-length run blocks maps sized; sized = map-at run blocks maps sized; small = small });
+          once = λ k h. rw (to-each run blocks sources (length blocks) maps k h) (Permᴰ·refl sources);
+        },
+      )

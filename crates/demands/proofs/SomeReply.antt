@@ -22,9 +22,8 @@ use Rattle.hits.specs.declared.Listing.{Listing}
 use Rattle.hits.specs.declared.Listing.the-variants.{Done, More, Refused as Refused·listing}
 use Rattle.hits.specs.Promise.{firstHitTests, listingTests, first, saysFirstHit, Listed, saysListing, listed, written, FirstHitPromise, ListingPromise}
 use Rattle.map.specs.declared.Added.{Added}
-use Rattle.map.specs.declared.Added.the-variants.{Done as Done·map, Refused as Refused·map}
-use Rattle.map.specs.Promise.{mapTests, MapPromise}
-use Rattle.map.proofs.Unique.{refused-call, granted-call}
+use Rattle.map.specs.Promise.{MapPromise}
+use Rattle.map.proofs.Unique as Map
 use Rattle.saved.specs.declared.Saved.{Saved}
 use Rattle.saved.specs.declared.Loaded.{Loaded}
 use Rattle.saved.specs.Promise.{SavingPromise, ReadingPromise}
@@ -88,11 +87,7 @@ listing-exists run source start room =
 
 -- Some reply and some map after it fit the map call.
 pub map-exists : (run : Run) (periods weights map : List ℕ) → (answer : Added) × (after : List ℕ) × MapPromise run periods weights map answer after
-map-exists run periods weights map = go (judged (mapTests ceiling run periods weights map))
-  where
-    go : Passes (mapTests ceiling run periods weights map) ⊎ ((n : ℕ) × Fails (mapTests ceiling run periods weights map) n) → (answer : Added) × (after : List ℕ) × MapPromise run periods weights map answer after
-    go (inl p) = (Done·map, _, granted-call p refl)
-    go (inr f) = (Refused·map (f .0), map, refused-call (f .1))
+map-exists = Map.map-exists ceiling
 
 -- Some reply and some file after it fit saving.
 pub saving-exists : (run : Run) (map room : List ℕ) → (answer : Saved) × (after : List ℕ) × SavingPromise run map room answer after

@@ -1,5 +1,6 @@
 -- Demand 3: "Add the sources to the blocks in any order, each source once to each block, each call finding the map as the one
--- before left it": the blocks' maps, and a history of calls.
+-- before left it": the blocks' maps, and a history of calls. At any ceiling c: demand 3 is at `ceiling`,
+-- where the promise that each call keeps is `MapPromise`.
 use Prim.Native.Nat.{ℕ, _+_, _<_}
 use mathlib.Core.Path.{_≡_}
 use mathlib.Core.Bool.{cond}
@@ -9,12 +10,12 @@ use lib.ListN.{length, getD, set}
 use Rattle.scope.specs.declared.Run.{Run}
 use Rattle.scope.specs.declared.RunCell.{RunCell}
 use Rattle.scope.specs.declared.BlockCell.{BlockCell}
-use Rattle.scope.specs.Run.{ValidRun, ceiling, UpTo, cellsOf, toRun}
+use Rattle.scope.specs.Run.{ValidRun, UpTo, cellsOf, toRun}
 use Rattle.sources.specs.Entry.{Entry}
 use Rattle.map.specs.declared.Added.{Added}
 use Rattle.map.specs.declared.Added.the-variants.{Done}
 use Rattle.map.specs.Sum.{capped}
-use Rattle.map.specs.Promise.{weightAt, added, MapPromise}
+use Rattle.map.specs.Promise.{weightAt, added, MapPromiseAt}
 use Rattle.sources.specs.Lists.{periodsOf, weightsOf, ValidEntries}
 use Rattle.demands.specs.Cut.{Cut}
 
@@ -38,12 +39,12 @@ pub record Call : Type 0 where
   pub after : List ℕ
 
 -- Every call keeps its promise, "each call finding the map as the one before left it".
-abbrev pub Keep : Run → List Run → List (List ℕ) → List Call → Type 0
-Keep run blocks maps [] = Unit {0}
-Keep run blocks maps (call ∷ calls) =
+abbrev pub Keep : ℕ → Run → List Run → List (List ℕ) → List Call → Type 0
+Keep c run blocks maps [] = Unit {0}
+Keep c run blocks maps (call ∷ calls) =
     (call .block < length blocks) ×
-    MapPromise (getD blocks (call .block) run) (periodsOf (call .entries)) (weightsOf (call .entries)) (getD maps (call .block) []) (call .answer) (call .after) ×
-    Keep run blocks (set maps (call .block) (call .after)) calls
+    MapPromiseAt c (getD blocks (call .block) run) (periodsOf (call .entries)) (weightsOf (call .entries)) (getD maps (call .block) []) (call .answer) (call .after) ×
+    Keep c run blocks (set maps (call .block) (call .after)) calls
 
 -- What the calls leave in the blocks' maps.
 abbrev pub leave : List (List ℕ) → List Call → List (List ℕ)
@@ -60,21 +61,23 @@ abbrev pub NoneRefused : List Call → Type 0
 NoneRefused [] = Unit {0}
 NoneRefused (call ∷ calls) = (call .answer ≡ Done) × NoneRefused calls
 
--- A cut of a run, sources within the limits, a map of bytes for each block, and calls that add each source once to each block.
-pub record History (run : Run) (blocks : List Run) (sources : List Entry) (maps : List (List ℕ)) (calls : List Call) : Type 0 where
+-- A cut of a run, sources within the limits, for each block a map with no cell above the ceiling, and calls that add each source
+-- once to each block.
+pub record History (c : ℕ) (run : Run) (blocks : List Run) (sources : List Entry) (maps : List (List ℕ)) (calls : List Call) : Type 0 where
   pub valid : ValidRun run
   pub cut : Cut run blocks
-  pub within : ValidEntries ceiling sources
+  pub within : ValidEntries c sources
   pub sized : Maps blocks maps
-  pub bytes : (k : ℕ) → UpTo ceiling (getD maps k [])
-  pub keep : Keep run blocks maps calls
+  pub small : (k : ℕ) → UpTo c (getD maps k [])
+  pub keep : Keep c run blocks maps calls
   pub once : (k : ℕ) → k < length blocks → List·Permᴰ (addedTo k calls) sources
 
--- "every cell then holds what it held before plus the weights of all its hits, or 255 if that is more"; and no call is refused.
+-- "every cell then holds what it held before plus the weights of all its hits, or 255 if that is more", the ceiling; and no call
+-- is refused.
 -- Told of all maps joined, of each cell of the run, and block by block: cell x of block k has the hits of the run's cell that it is.
-pub record Adds (run : Run) (blocks : List Run) (sources : List Entry) (maps : List (List ℕ)) (calls : List Call) : Type 0 where
+pub record Adds (c : ℕ) (run : Run) (blocks : List Run) (sources : List Entry) (maps : List (List ℕ)) (calls : List Call) : Type 0 where
   pub none-refused : NoneRefused calls
   pub cells : length (together maps) ≡ cellsOf run
-  pub whole : together (leave maps calls) ≡ added ceiling run sources (together maps)
-  pub every-cell : (y : RunCell) → y .0 < cellsOf run → getD (together (leave maps calls)) (y .0) 0 ≡ capped ceiling (getD (together maps) (y .0) 0 + weightAt run sources (y .0))
-  pub every-block : (k : ℕ) → k < length blocks → (x : BlockCell) → x .0 < cellsOf (getD blocks k run) → getD (getD (leave maps calls) k []) (x .0) 0 ≡ capped ceiling (getD (getD maps k []) (x .0) 0 + weightAt run sources (toRun run (getD blocks k run) x .0))
+  pub whole : together (leave maps calls) ≡ added c run sources (together maps)
+  pub every-cell : (y : RunCell) → y .0 < cellsOf run → getD (together (leave maps calls)) (y .0) 0 ≡ capped c (getD (together maps) (y .0) 0 + weightAt run sources (y .0))
+  pub every-block : (k : ℕ) → k < length blocks → (x : BlockCell) → x .0 < cellsOf (getD blocks k run) → getD (getD (leave maps calls) k []) (x .0) 0 ≡ capped c (getD (getD maps k []) (x .0) 0 + weightAt run sources (toRun run (getD blocks k run) x .0))

@@ -14,7 +14,7 @@ use borrow.Rule.Slice.PartMut.{midOf, putMid, mid-len}
 use Rattle.rooms.specs.Lists.{zeros}
 use Rattle.rooms.proofs.Lists.{length-zeros}
 use Rattle.fileblocks.specs.FileBlock.{fileBlockBytes, contentAt, contentBytes, checkAt, four, fourAt, weighted, checkOf, filled, fileBlockOf, sealedWith}
-use Rattle.fileblocks.proofs.Front.{front-none, front-part, front-length, front-all}
+use Rattle.rooms.proofs.Written.{written-none, written-part, written-length, written-all}
 
 pub length-four : (n : ℕ) → length (four n) ≡ 4
 unfolding four
@@ -74,21 +74,21 @@ written-file-block number bytes block {a} {b} {c} {d} {sum} short whole ea eb ec
     let end = contentAt + length bytes in
     let la : length a ≡ 4 = ap length ea ∙ length-four number in
     let lb : length b ≡ end - contentAt = ap length eb ∙ omega arith in
-    let w₁ = front-part contentAt a (front-none block) (omega arith) (omega arith) la in
-    let w₂ = front-part end b w₁ (omega arith) (omega arith) lb in
-    let l₂ = front-length w₂ in
+    let w₁ = written-part (written-none block 0 (omega arith)) contentAt a (omega arith) (omega arith) la in
+    let w₂ = written-part w₁ end b (omega arith) (omega arith) lb in
+    let l₂ = written-length w₂ in
     let gap : end + (contentBytes - length bytes) ≡ checkAt = omega arith in
     let room : length (midOf end (checkAt - end) (putMid contentAt (end - contentAt) (putMid 0 4 block a) b)) ≡ contentBytes - length bytes = mid-len end checkAt _ (omega arith) ∙ omega arith in
     let ec' : c ≡ zeros (contentBytes - length bytes) = ec ∙ ap zeros room in
     let lc : length c ≡ checkAt - end = ap length ec' ∙ length-zeros (contentBytes - length bytes) ∙ omega arith in
-    let w₃ = front-part checkAt c w₂ (omega arith) (omega arith) lc in
+    let w₃ = written-part w₂ checkAt c (omega arith) (omega arith) lc in
     let front : (a ++ b) ++ c ≡ four number ++ filled bytes =
     append-assoc a b c ∙ cc (filled-short bytes short) in
     let ld : length d ≡ 4 = ap length ed ∙ length-four sum in
-    let w₄ = front-part fileBlockBytes d w₃ (omega arith) (omega arith) ld in
+    let w₄ = written-part w₃ fileBlockBytes d (omega arith) (omega arith) ld in
     let check : sum ≡ checkOf (four number ++ filled bytes) =
-    es ∙ ap checkOf (w₃ .is) ∙ check-front ((a ++ b) ++ c) (drop checkAt block) (w₃ .size) ∙ ap checkOf front in
-    front-all w₄ (omega arith) ∙ cc
+    es ∙ ap checkOf (w₃ .kept) ∙ check-front ((a ++ b) ++ c) (drop checkAt block) (omega (arith, w₃ .ends)) ∙ ap checkOf front in
+    written-all w₄ (omega arith) ∙ cc
 
 -- both the number and the check are right
 pub sealed-right : (k : ℕ) (block : List ℕ) → (sealedWith k block ≡ true) ↔ ((fourAt block 0 ≡ k) × (fourAt block checkAt ≡ checkOf block))

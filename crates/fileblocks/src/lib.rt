@@ -39,29 +39,6 @@ fn check(block: &[u8]) -> u32
     sum
 }
 
-// Makes every byte of a room zero.
-fn clear(room: &mut [u8])
-    ensures { λ _. ⌜ now (room .exit) ≡ zeros (length (now (room .entry))) ⌝ }
-{
-    let mut i = 0;
-    while i < room.len() {
-        room[i] = 0;
-        i += 1;
-    }
-}
-
-// Inner step. Copies all of `bytes` into a room of their length.
-pub fn copy(bytes: &[u8], room: &mut [u8])
-    requires { ⌜ length (now room) ≡ length (now bytes) ⌝ }
-    ensures { λ _. ⌜ now (room .exit) ≡ now (bytes .entry) ⌝ }
-{
-    let mut i = 0;
-    while i < bytes.len() {
-        room[i] = bytes[i];
-        i += 1;
-    }
-}
-
 // Inner step. The number that the four bytes from `at` on stand for, the lowest first: each is at most 255, so that it fits.
 pub fn four_at(bytes: &[u8], at: usize) -> u32
     requires { ⌜ at + 4 ≤ length (now bytes) ⌝ }
@@ -107,8 +84,8 @@ pub fn write_file_block(number: u32, bytes: &[u8], block: &mut [u8])
 {
     let end = CONTENT_AT + bytes.len();
     put_four(&mut block[0..CONTENT_AT], number);
-    copy(bytes, &mut block[CONTENT_AT..end]);
-    clear(&mut block[end..CHECK_AT]);
+    rooms::copy(bytes, &mut block[CONTENT_AT..end]);
+    rooms::clear(&mut block[end..CHECK_AT]);
     let sum = check(block);
     put_four(&mut block[CHECK_AT..FILE_BLOCK_BYTES], sum);
 }

@@ -75,17 +75,16 @@ fn write_hits(run: Run, source: Source, start: RunCell, room: &mut [u64]) -> Lis
     ensures { λ r. ⌜ ListsFrom run source (start .0) (now (room .entry)) r (now (room .exit)) ⌝ }
 {
     let all = scope::cells(run);
-    let first = search::find_hit(run, source, start);
-    if all <= first.0 {
+    let mut cell = search::find_hit(run, source, start).0;
+    if all <= cell {
         return Listing::Done(0);
     }
     let window = run.window;
     let period = source.period;
     let end = walk::offset_at(window as u64, window);
     let walk = walk::plan(run, source);
-    let mut cell = first.0;
     let mut offset = walk::offset_at(cell % window as u64, window);
-    let mut at = walk::line_hit_of(run, source, first);
+    let mut at = walk::line_hit_of(run, source, RunCell(cell));
     let mut next = all;
     let mut n: usize = 0;
     'lines: while cell < all {

@@ -36,7 +36,7 @@ pub cong-trans : {p a b c : ℕ} → Cong p a b → Cong p b c → Cong p a c
 cong-trans h k = record { up = h .up + k .up; down = h .down + k .down; same = omega arith }
 
 -- it keeps sums, multiples and products, and a summand cancels
-pub cong-add : {p a b c d : ℕ} → Cong p a b → Cong p c d → Cong p (a + c) (b + d)
+cong-add : {p a b c d : ℕ} → Cong p a b → Cong p c d → Cong p (a + c) (b + d)
 cong-add h k = record { up = h .up + k .up; down = h .down + k .down; same = omega arith }
 
 cong-mul : {p a b : ℕ} (k : ℕ) → Cong p a b → Cong p (k * a) (k * b)

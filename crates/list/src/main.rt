@@ -8,7 +8,8 @@ ghost use mathlib.Core.Path.{_≡_};
 ghost use lib.ListN.{length};
 ghost use Rattle.rooms.specs.Lists.{zeros};
 ghost use Rattle.report.specs.Promise.{PrintedOf};
-ghost use Rattle.list.specs.Reading.{Stopped, inputOf, Whole};
+ghost use Rattle.list.specs.Reading.{Whole};
+ghost use Rattle.list.specs.Inner.{Stopped, inputOf};
 
 // What was read: so many bytes, and what the last read answered.
 struct Reading {

@@ -24,7 +24,7 @@ use Rattle.map.proofs.Raised.{raised-again, raised-move, raised-length,
 
 -- ---- what they weigh
 
-pub weight-append : (run : Run) (a b : List Entry) (x : ℕ) → weightAt run (a ++ b) x ≡ weightAt run a x + weightAt run b x
+weight-append : (run : Run) (a b : List Entry) (x : ℕ) → weightAt run (a ++ b) x ≡ weightAt run a x + weightAt run b x
 unfolding weightAt
 weight-append run [] b x = sym (zero-add _)
 weight-append run (e ∷ a) b x = rw (weight-append run a b x) (sym (add-assoc _ _ _))

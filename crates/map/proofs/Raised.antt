@@ -14,14 +14,14 @@ use Rattle.map.specs.Sum.{capped, raised}
 use Rattle.map.specs.Inner.{RaisedIn}
 
 -- a sum stopped in between
-pub capped-again : (c a b : ℕ) → capped c (capped c a + b) ≡ capped c (a + b)
+capped-again : (c a b : ℕ) → capped c (capped c a + b) ≡ capped c (a + b)
 capped-again c a b = omega arith
 
 -- what is not above the ceiling is not stopped
 pub capped-below : (c : ℕ) {a : ℕ} → a ≤ c → capped c a ≡ a
 capped-below c h = omega arith
 
-pub capped-le : (c a : ℕ) → capped c a ≤ c
+capped-le : (c a : ℕ) → capped c a ≤ c
 capped-le c a = omega arith
 
 pub raised-length : (c : ℕ) (gain : ℕ → ℕ) (x : ℕ) (cells : List ℕ) → length (raised c gain x cells) ≡ length cells

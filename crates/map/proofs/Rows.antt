@@ -21,16 +21,16 @@ use Rattle.scope.proofs.Hits.{origin, On, hit-on, miss-on, hit-or-miss}
 use Rattle.map.specs.Promise.{weightAt}
 use Rattle.map.proofs.Raised.{RaisedBelow, starts, over, store, patch}
 
-pub spaced-hit : (p s d w : ℕ) → d % p ≡ s → spaced p s w d ≡ w
+spaced-hit : (p s d w : ℕ) → d % p ≡ s → spaced p s w d ≡ w
 unfolding spaced
 spaced-hit p s d w e = rw (eq-eqb _ _ e)
 
-pub spaced-miss : (p s d w : ℕ) → (d % p ≡ s → ⊥) → spaced p s w d ≡ 0
+spaced-miss : (p s d w : ℕ) → (d % p ≡ s → ⊥) → spaced p s w d ≡ 0
 unfolding spaced
 spaced-miss p s d w e = rw (ne-eqb _ _ e)
 
 -- between two numbers a period apart no number has their remainder
-pub between : (p s d i : ℕ) → d % p ≡ s → d < i → i < d + p → i % p ≡ s → ⊥
+between : (p s d i : ℕ) → d % p ≡ s → d < i → i < d + p → i % p ≡ s → ⊥
 between p s d i e low high f = go (decLt (d / p) (i / p))
   where
     go : Dec (d / p < i / p) → ⊥
@@ -76,7 +76,7 @@ unfoldable pub rowGain : (window period step start weight : ℕ) → ℕ → ℕ
 rowGain window period step start weight x = spaced period ((start + x / window * step) % period) weight (x % window)
 
 -- n times a remainder
-pub steps-mod : (p a b n : ℕ) → (a + n * (b % p)) % p ≡ (a + n * b) % p
+steps-mod : (p a b n : ℕ) → (a + n * (b % p)) % p ≡ (a + n * b) % p
 steps-mod p a b n =
     let z : a + n * b ≡ a + n * (b % p) + n * (b / p) * p = omega (arith, ap (λ m. n * m) (div-add-mod' b p)) in
     sym (rw z (add-mul-mod-self-right _ (n * (b / p)) p))

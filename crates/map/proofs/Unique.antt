@@ -1,26 +1,27 @@
--- The promise of the map call: what makes it, and that no second reply and no second map fits. Assumes nothing.
+-- The promise of the map call, at any ceiling c: what makes it, that no second reply and no second map fits, and that one does.
+-- Assumes nothing.
 use Prim.Native.Nat.{ℕ}
 use mathlib.Core.Path.{_≡_, refl, sym, _∙_}
 use mathlib.Core.List.{List}
 use Rattle.scope.specs.declared.Run.{Run}
-use Rattle.scope.specs.Run.{ceiling}
-use Rattle.scope.specs.Reply.{answered}
+use Rattle.scope.specs.Refusal.{complaint}
+use Rattle.scope.specs.Reply.{Said, answered, refused, reply, stored}
 use Rattle.scope.proofs.Judged.{Fails, Passes, refuse-reply, refuse-stored, grant-reply, grant-stored}
 use Rattle.map.specs.declared.Added.{Added}
 use Rattle.map.specs.declared.Added.the-variants.{Done, Refused}
 use Rattle.sources.specs.Entry.{entriesOf}
-use Rattle.map.specs.Promise.{mapTests, added, saysMap, MapPromise}
+use Rattle.map.specs.Promise.{mapTests, added, saysMap, MapPromiseAt}
 
-module _ {run : Run} {periods weights map : List ℕ} where
-  pub refused-call : {n : ℕ} → Fails (mapTests ceiling run periods weights map) n → MapPromise run periods weights map (Refused n) map
-  refused-call f = record { says = refuse-reply tt f; stores = refuse-stored map (added ceiling run (entriesOf periods weights) map) f }
+module _ {c : ℕ} {run : Run} {periods weights map : List ℕ} where
+  pub refused-call : {n : ℕ} → Fails (mapTests c run periods weights map) n → MapPromiseAt c run periods weights map (Refused n) map
+  refused-call f = record { says = refuse-reply tt f; stores = refuse-stored map (added c run (entriesOf periods weights) map) f }
 
-  pub granted-call : {after : List ℕ} → Passes (mapTests ceiling run periods weights map) → after ≡ added ceiling run (entriesOf periods weights) map → MapPromise run periods weights map Done after
-  granted-call p e = record { says = grant-reply tt p; stores = e ∙ grant-stored map (added ceiling run (entriesOf periods weights) map) p }
+  pub granted-call : {after : List ℕ} → Passes (mapTests c run periods weights map) → after ≡ added c run (entriesOf periods weights) map → MapPromiseAt c run periods weights map Done after
+  granted-call p e = record { says = grant-reply tt p; stores = e ∙ grant-stored map (added c run (entriesOf periods weights) map) p }
 
   -- what the tests' passing makes of the call
-  pub stores-added : {answer : Added} {after : List ℕ} → Passes (mapTests ceiling run periods weights map) → MapPromise run periods weights map answer after → (saysMap answer ≡ answered tt) × (after ≡ added ceiling run (entriesOf periods weights) map)
-  stores-added p m = (m .says ∙ sym (grant-reply tt p), m .stores ∙ sym (grant-stored map (added ceiling run (entriesOf periods weights) map) p))
+  pub stores-added : {answer : Added} {after : List ℕ} → Passes (mapTests c run periods weights map) → MapPromiseAt c run periods weights map answer after → (saysMap answer ≡ answered tt) × (after ≡ added c run (entriesOf periods weights) map)
+  stores-added p m = (m .says ∙ sym (grant-reply tt p), m .stores ∙ sym (grant-stored map (added c run (entriesOf periods weights) map) p))
 
 -- an answer is told by what it says
 pub says-map-injective : (a b : Added) → saysMap a ≡ saysMap b → a ≡ b
@@ -30,5 +31,19 @@ says-map-injective (Refused n) Done e = cc
 says-map-injective (Refused n) (Refused m) e = cc
 
 -- "That no second reply fits is proved."
-pub map-unique : {run : Run} {periods weights map : List ℕ} {a b : Added} {after other : List ℕ} → MapPromise run periods weights map a after → MapPromise run periods weights map b other → (a ≡ b) × (after ≡ other)
-map-unique {run} {periods} {weights} {map} {a} {b} m n = (says-map-injective a b (m .says ∙ sym (n .says)), m .stores ∙ sym (n .stores))
+pub map-unique : {c : ℕ} {run : Run} {periods weights map : List ℕ} {a b : Added} {after other : List ℕ} → MapPromiseAt c run periods weights map a after → MapPromiseAt c run periods weights map b other → (a ≡ b) × (after ≡ other)
+map-unique {c} {run} {periods} {weights} {map} {a} {b} m n = (says-map-injective a b (m .says ∙ sym (n .says)), m .stores ∙ sym (n .stores))
+
+-- And that one does.
+abbrev answerOf : Said (Unit {0}) → Added
+answerOf (answered done) = Done
+answerOf (refused n) = Refused n
+
+says-answer : (s : Said (Unit {0})) → saysMap (answerOf s) ≡ s
+says-answer (answered done) = refl
+says-answer (refused n) = refl
+
+pub map-exists : (c : ℕ) (run : Run) (periods weights map : List ℕ) → (answer : Added) × (after : List ℕ) × MapPromiseAt c run periods weights map answer after
+map-exists c run periods weights map =
+    let o = complaint (mapTests c run periods weights map) in
+    (answerOf (reply o tt), stored o map (added c run (entriesOf periods weights) map), record { says = says-answer (reply o tt); stores = refl })

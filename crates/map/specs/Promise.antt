@@ -37,7 +37,11 @@ abbrev pub saysMap : Added → Said (Unit {0})
 saysMap Done = answered tt
 saysMap (Refused number) = refused number
 
--- The promise of the map call: what it says, and what every cell holds afterwards.
-pub record MapPromise (run : Run) (periods weights map : List ℕ) (answer : Added) (after : List ℕ) : Type 0 where
-  pub says : saysMap answer ≡ reply (complaint (mapTests ceiling run periods weights map)) tt
-  pub stores : after ≡ stored (complaint (mapTests ceiling run periods weights map)) map (added ceiling run (entriesOf periods weights) map)
+-- The promise of the map call at a ceiling c: what it says, and what every cell holds afterwards.
+pub record MapPromiseAt (c : ℕ) (run : Run) (periods weights map : List ℕ) (answer : Added) (after : List ℕ) : Type 0 where
+  pub says : saysMap answer ≡ reply (complaint (mapTests c run periods weights map)) tt
+  pub stores : after ≡ stored (complaint (mapTests c run periods weights map)) map (added c run (entriesOf periods weights) map)
+
+-- The promise of the map call: at 01's ceiling.
+abbrev pub MapPromise : Run → List ℕ → List ℕ → List ℕ → Added → List ℕ → Type 0
+MapPromise run periods weights map answer after = MapPromiseAt ceiling run periods weights map answer after

@@ -1,5 +1,5 @@
 -- The output of a text: from what was written into the blank room, and from what the text says. Assumes nothing.
-use Prim.Native.Nat.{ℕ, _-_, _≤_}
+use Prim.Native.Nat.{ℕ, _+_, _-_, _≤_}
 use native.Mathlib.Omega.{arith}
 use native.Mathlib.Nat.{zero-add}
 use mathlib.Core.Path.{_≡_, refl, sym, ap, _∙_, subst}
@@ -9,7 +9,9 @@ use lib.Seq.{length-take-le}
 use borrow.Author.Tests.{ltb-false}
 use Rattle.rooms.specs.Lists.{zeros}
 use Rattle.rooms.specs.InnerRooms.{Written}
-use Rattle.rooms.proofs.Lists.{padded-within, padded-is}
+use Rattle.rooms.proofs.Lists.{length-zeros, padded-within, padded-is, up-to}
+use Rattle.decimal.specs.Digits.{largest}
+use Rattle.words.proofs.Writing.{line-long}
 use Rattle.scope.specs.declared.Run.{Run}
 use Rattle.scope.specs.Run.{cellsOf}
 use Rattle.sources.specs.Entry.{entriesOf}
@@ -39,6 +41,11 @@ prints {room} {bytes} {next} {after} e w =
       counts = count;
       begins = w .kept ∙ ap (λ k. bytes ++ drop k room) count ∙ ap (λ b. bytes ++ drop (length bytes) b) e ∙ sym (padded-is 921600 bytes);
     }
+
+-- a word of seven letters and a number fit
+pub refusal-fits : (word : List ℕ) (n : ℕ) {room : List ℕ} → length word ≡ 7 → n ≤ largest → room ≡ zeros 921600 → 0 + length (line word (n ∷ [])) ≤ length room
+refusal-fits word n seven small e =
+    omega (arith, line-long word (n ∷ []) (up-to (n ∷ []) (small, tt)), ap length e, length-zeros 921600)
 
 -- ---- the text
 

@@ -32,7 +32,7 @@ pub hits-few : (run : Run) (source : Source) → length (hitsFrom run source 0) 
 unfolding hitsFrom
 hits-few run source = omega (arith, length-hits run source 0 (cellsOf run - 0))
 
--- a room with a place for every cell takes all hits in one call
+-- a room as long as there are cells takes all hits in one call
 pub all-listed : {run : Run} {source : Source} {start : RunCell} {room : List ℕ} {r : Listing} {after : List ℕ} → ValidRun run → ValidSource source → start .0 ≡ 0
     → cellsOf run ≤ length room → ListingPromise run source start room r after → r ≡ Done (length (hitsFrom run source 0))
 unfolding listingTests firstHitTests listed

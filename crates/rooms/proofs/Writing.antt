@@ -17,7 +17,7 @@ pub record Writing (before : List ℕ) (at : ℕ) (whole rest : List ℕ) (next 
   pub fits : at + length whole ≤ length before
 
 pub writing-starts : (room : List ℕ) (at : ℕ) (whole : List ℕ) → at + length whole ≤ length room → Writing room at whole whole at room
-writing-starts room at whole h = record { done = []; writes = written-none room at; makes = refl; fits = h }
+writing-starts room at whole h = record { done = []; writes = written-none room at (omega arith); makes = refl; fits = h }
 
 module _ {before : List ℕ} {at : ℕ} {whole rest : List ℕ} {next : ℕ} {room : List ℕ} (w : Writing before at whole rest next room) where
   -- the rest fits
@@ -25,7 +25,7 @@ module _ {before : List ℕ} {at : ℕ} {whole rest : List ℕ} {next : ℕ} {ro
   writing-fits = omega (arith, w .writes .ends, w .fits, length-append (w .done) rest, ap length (w .makes))
 
   pub writing-long : length room ≡ length before
-  writing-long = written-length (w .writes) (omega (arith, writing-fits))
+  writing-long = written-length (w .writes)
 
   -- of the rest a piece is written
   pub writing-more : {piece left : List ℕ} {end : ℕ} {after : List ℕ} → rest ≡ piece ++ left → Written room next piece end after
@@ -33,7 +33,7 @@ module _ {before : List ℕ} {at : ℕ} {whole rest : List ℕ} {next : ℕ} {ro
   writing-more {piece} {left} e v =
       record {
         done = w .done ++ piece;
-        writes = written-append (w .writes) (omega (arith, w .fits)) v;
+        writes = written-append (w .writes) v;
         makes = append-assoc (w .done) piece left ∙ rw (← e) (w .makes);
         fits = w .fits;
       }
@@ -51,7 +51,7 @@ module _ {before : List ℕ} {at : ℕ} {whole rest : List ℕ} {next : ℕ} {ro
 
   -- the last piece is written
   pub writing-last : {end : ℕ} {after : List ℕ} → Written room next rest end after → Written before at whole end after
-  writing-last {end} {after} v = subst (λ all. Written before at all end after) (w .makes) (written-append (w .writes) (omega (arith, w .fits)) v)
+  writing-last {end} {after} v = subst (λ all. Written before at all end after) (w .makes) (written-append (w .writes) v)
 
 -- what is written may be said in another way
 pub written-same : {room : List ℕ} {at : ℕ} {bytes others : List ℕ} {next : ℕ} {after : List ℕ} → bytes ≡ others → Written room at bytes next after → Written room at others next after

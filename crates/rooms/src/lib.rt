@@ -1,8 +1,9 @@
-// Lent rooms: a number stored, bytes written one after the other; and a byte widened.
+// Lent rooms: cleared, copied into, a number stored, bytes written one after the other; and numbers: the smaller, the larger, a byte widened.
 // Every function is proved. No function here is a public operation: each is an inner step of the crates above.
-ghost use Prim.Native.Nat.{_+_, _≤_};
+ghost use Prim.Native.Nat.{_+_, _≤_, min, max};
 ghost use mathlib.Core.Path.{_≡_};
 ghost use lib.ListN.{length, set};
+ghost use Rattle.rooms.specs.Lists.{zeros};
 ghost use Rattle.rooms.specs.InnerRooms.{Written};
 
 // Inner step. The same number in 64 bits.
@@ -10,6 +11,43 @@ pub fn wide(byte: u8) -> u64
     ensures { λ r. ⌜ r ≡ byte ⌝ }
 {
     byte as u64
+}
+
+// Inner step. The smaller of two numbers.
+pub fn smaller(a: usize, b: usize) -> usize
+    ensures { λ r. ⌜ r ≡ min a b ⌝ }
+{
+    if a < b { a } else { b }
+}
+
+// Inner step. The larger of two numbers.
+pub fn larger(a: u64, b: u64) -> u64
+    ensures { λ r. ⌜ r ≡ max a b ⌝ }
+{
+    if a < b { b } else { a }
+}
+
+// Inner step. Makes every byte of a room zero.
+pub fn clear(room: &mut [u8])
+    ensures { λ _. ⌜ now (room .exit) ≡ zeros (length (now (room .entry))) ⌝ }
+{
+    let mut i = 0;
+    while i < room.len() {
+        room[i] = 0;
+        i += 1;
+    }
+}
+
+// Inner step. Copies all of `bytes` into a room of their length.
+pub fn copy(bytes: &[u8], room: &mut [u8])
+    requires { ⌜ length (now room) ≡ length (now bytes) ⌝ }
+    ensures { λ _. ⌜ now (room .exit) ≡ now (bytes .entry) ⌝ }
+{
+    let mut i = 0;
+    while i < bytes.len() {
+        room[i] = bytes[i];
+        i += 1;
+    }
 }
 
 // Inner step. Stores a number in the room at k where the room is so long, and nothing elsewhere.

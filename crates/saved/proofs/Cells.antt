@@ -15,7 +15,8 @@ use Rattle.saved.specs.File.{firstJoined, laterFileBlocks, fileBlocksFor
 use Rattle.saved.specs.Inner.{manyBytes}
 use Rattle.rooms.proofs.Lists.{take-take-min, take-drop-take}
 use Rattle.fileblocks.proofs.FileBlock.{length-fileBlockOf}
-use Rattle.fileblocks.proofs.Front.{Front, front-none, front-part, front-length, front-all}
+use Rattle.rooms.specs.InnerRooms.{Written}
+use Rattle.rooms.proofs.Written.{written-none, written-part, written-length, written-all}
 
 -- a cell is one byte
 pub cell-bytes : (run : Run) → bytesFor run ≡ cellsOf run
@@ -64,15 +65,15 @@ pub record CellsWritten (map before now : List ℕ) (k : ℕ) : Type 0 where
   pub few : length map < manyBytes
   pub room : length before ≡ fileBlockBytes * fileBlocksFor (length map)
   pub within : k ≤ fileBlocksFor (length map)
-  pub written : Front before now (laterFileBlocks map k) (fileBlockBytes * k)
+  pub written : Written before 0 (laterFileBlocks map k) (fileBlockBytes * k) now
 
 pub cells-none : {map before : List ℕ} → length map < manyBytes → length before ≡ fileBlockBytes * fileBlocksFor (length map) → CellsWritten map before before 0
 unfolding laterFileBlocks firstJoined
-cells-none h e = record { few = h; room = e; within = omega arith; written = front-none _ }
+cells-none h e = record { few = h; room = e; within = omega arith; written = written-none _ 0 (omega arith) }
 
 pub cells-room : {map before now : List ℕ} {k : ℕ} → CellsWritten map before now k → contentBytes * k < length map → fileBlockBytes * k + fileBlockBytes ≤ length now
 cells-room s h =
-    let l = front-length (s .written) in
+    let l = written-length (s .written) in
     let b = more-file-blocks h in
     let r = s .room in
     omega arith
@@ -80,7 +81,7 @@ cells-room s h =
 pub cells-more : {map before now part : List ℕ} {k end : ℕ} → CellsWritten map before now k → contentBytes * k < length map → end ≡ min (contentBytes * k + contentBytes) (length map) → part ≡ fileBlockOf (k + 1) (take (end - contentBytes * k) (drop (contentBytes * k) map)) → CellsWritten map before (putMid (fileBlockBytes * k) (fileBlockBytes * k + fileBlockBytes - fileBlockBytes * k) now part) (k + 1)
 unfolding laterFileBlocks firstJoined
 cells-more {map} {before} {now} {part} {k} {end} s h e p =
-    let l = front-length (s .written) in
+    let l = written-length (s .written) in
     let r = cells-room s h in
     let size : end - contentBytes * k ≡ min contentBytes (length (drop (contentBytes * k) map)) = simp length-drop (omega arith) in
     let block : part ≡ fileBlockOf (suc k) (drop (contentBytes * k) map) = p ∙ ap (λ n. fileBlockOf n (take (end - contentBytes * k) (drop (contentBytes * k) map))) (add-one k) ∙ file-block-take (suc k) (drop (contentBytes * k) map) (end - contentBytes * k) size in
@@ -90,14 +91,14 @@ cells-more {map} {before} {now} {part} {k} {end} s h e p =
       few = s .few;
       room = s .room;
       within = let b = more-file-blocks h in omega arith;
-      written = rw (next, add-one k, ← block) (front-part (fileBlockBytes * k + fileBlockBytes) part (s .written) (omega arith) (omega arith) many);
+      written = rw (next, add-one k, ← block) (written-part (s .written) (fileBlockBytes * k + fileBlockBytes) part (omega arith) (omega arith) many);
     }
 
 pub cells-all : {map before now : List ℕ} {k : ℕ} → CellsWritten map before now k → length map ≤ contentBytes * k → now ≡ laterFileBlocks map (fileBlocksFor (length map))
 cells-all {map} {before} {now} {k} s h =
     let all = all-file-blocks (s .within) h in
     let r = s .room in
-    front-all (s .written) (ap (λ n. fileBlockBytes * n) all ∙ sym r) ∙ ap (laterFileBlocks map) all
+    written-all (s .written) (ap (λ n. fileBlockBytes * n) all ∙ sym r) ∙ ap (laterFileBlocks map) all
 
 -- the cells of block k + 1 in a map: from 504·k to `end`
 record Turn (k all end : ℕ) : Type 0 where
@@ -140,7 +141,7 @@ pub record CellsRead (file before now : List ℕ) (k : ℕ) : Type 0 where
   pub long : length file ≡ fileLength (length before)
   pub within : k ≤ fileBlocksFor (length before)
   pub same : length now ≡ length before
-  pub written : Front before now (take (length before) (bytesIn file k)) (min (contentBytes * k) (length before))
+  pub written : Written before 0 (take (length before) (bytesIn file k)) (min (contentBytes * k) (length before)) now
 
 pub read-none : {file before : List ℕ} → length before < manyBytes → length file ≡ fileLength (length before) → CellsRead file before before 0
 unfolding bytesIn firstJoined
@@ -149,7 +150,7 @@ read-none {file} {before} h e = record {
   long = e;
   within = omega arith;
   same = refl;
-  written = let z : min (contentBytes * 0) (length before) ≡ 0 = omega arith in rw (z, take-nil (length before)) (front-none before);
+  written = let z : min (contentBytes * 0) (length before) ≡ 0 = omega arith in rw (z, take-nil (length before)) (written-none before 0 (omega arith));
 }
 
 -- the file has another block while cells are left
@@ -169,7 +170,7 @@ read-more {file} {before} {now} {part} {k} {end} s h e p =
     let t = turn (rw (s .same) at h) (rw (s .same) at e) in
     let cut : part ≡ take (end - contentBytes * k) (drop at file) = p ∙ ap (λ n. take n (drop at file)) (sum-less at (end - contentBytes * k)) in
     let many : length part ≡ end - contentBytes * k = ap length cut ∙ length-take-le (end - contentBytes * k) (drop at file) (simp length-drop (omega arith)) in
-    let written = front-part end part (rw (t .start) at (s .written)) (t .after) (t .inside) many in
+    let written = written-part (rw (t .start) at (s .written)) end part (t .after) (t .inside) many in
     let size = length-bytesIn file k (omega arith) in
     let front : take all (bytesIn file k) ≡ bytesIn file k = take-all all (bytesIn file k) (omega arith) in
     let whole : all ≡ length (bytesIn file k) + (all - contentBytes * k) = omega arith in
@@ -185,7 +186,7 @@ read-more {file} {before} {now} {part} {k} {end} s h e p =
       few = s .few;
       long = s .long;
       within = let b = more-file-blocks (rw (s .same) at h) in omega arith;
-      same = front-length written;
+      same = written-length written;
       written = rw (t .next, ← done) written;
     }
 
@@ -201,4 +202,4 @@ read-all {file} {before} {now} {k} s h =
     let l = s .same in
     let less : length before ≤ contentBytes * k = omega arith in
     let all = all-file-blocks (s .within) less in
-    front-all (s .written) (omega arith) ∙ ap (λ n. take (length before) (bytesIn file n)) all
+    written-all (s .written) (omega arith) ∙ ap (λ n. take (length before) (bytesIn file n)) all

@@ -3,7 +3,6 @@
 use fileblocks::CONTENT_AT;
 use fileblocks::CONTENT_BYTES;
 use fileblocks::FILE_BLOCK_BYTES;
-use fileblocks::copy;
 use fileblocks::four_at;
 use fileblocks::judge_file_block;
 use fileblocks::put_four;
@@ -12,7 +11,7 @@ use fileblocks::zeros_from;
 use scope::Run;
 use scope::Verdict;
 ghost use mathlib.Core.Path.{_≡_};
-ghost use Prim.Native.Nat.{min, _+_, _*_, _≤_, _<_};
+ghost use Prim.Native.Nat.{_+_, _*_, _≤_, _<_};
 ghost use lib.ListN.{length, take};
 ghost use Rattle.scope.specs.Run.{ValidRun};
 ghost use Rattle.scope.specs.Refusal.{complaint};
@@ -41,13 +40,6 @@ pub enum Loaded {
 
 // Block 0 holds so many bytes: the version, three spare bytes and the run's four numbers.
 const HEADING_BYTES: usize = 20;
-
-// The smaller of two numbers.
-fn least(a: usize, b: usize) -> usize
-    ensures { λ r. ⌜ r ≡ min a b ⌝ }
-{
-    if a < b { a } else { b }
-}
 
 // How many bytes the cells of a run within the limits are: a cell is one byte.
 fn bytes_for(run: Run) -> u64
@@ -87,7 +79,7 @@ fn write_cells(map: &[u8], room: &mut [u8])
     let mut k: usize = 0;
     while CONTENT_BYTES * k < map.len() {
         let from = CONTENT_BYTES * k;
-        let end = least(from + CONTENT_BYTES, map.len());
+        let end = rooms::smaller(from + CONTENT_BYTES, map.len());
         let at = FILE_BLOCK_BYTES * k;
         let next = at + FILE_BLOCK_BYTES;
         write_file_block((k + 1) as u32, &map[from..end], &mut room[at..next]);
@@ -205,10 +197,10 @@ fn load(file: &[u8], map: &mut [u8])
     let mut k: usize = 0;
     while CONTENT_BYTES * k < map.len() {
         let from = CONTENT_BYTES * k;
-        let end = least(from + CONTENT_BYTES, map.len());
+        let end = rooms::smaller(from + CONTENT_BYTES, map.len());
         let at = FILE_BLOCK_BYTES * (k + 1) + CONTENT_AT;
         let next = at + (end - from);
-        copy(&file[at..next], &mut map[from..end]);
+        rooms::copy(&file[at..next], &mut map[from..end]);
         k += 1;
     }
 }

@@ -22,7 +22,7 @@ use Rattle.vectors.proofs.Found.{first-two, start-left}
 use Rattle.vectors.proofs.Sequence.{size-of}
 use Rattle.search.specs.declared.Point.{Point}
 use Rattle.search.specs.declared.Found.the-variants.{Nothing}
-use Rattle.search.specs.InnerSearch.{Seeking, PointOf, FirstFrom, Enters, Sought}
+use Rattle.search.specs.InnerSearch.{Seeking, PointOf, FirstRight, FirstFrom, Enters, Sought}
 
 -- ---- cells by lines and distances
 
@@ -220,14 +220,18 @@ module _ {run : Run} (v : ValidRun run) {x : ℕ} (inside : x < cellsOf run) whe
   own-row : x - x % run .window ≡ x / run .window * run .window
   own-row = omega (arith, div-add-mod' x (run .window))
 
-  module _ {source : Source} (s : ValidSource source) {d : ℕ} (is : d ≡ (run .interval * (run .first + x / run .window) + origin run source) % source .period) where
-    row : Leftmost (source .period) (run .interval) (origin run source) (run .first + x / run .window) (x % run .window) (x % run .window + (d + (source .period - x % run .window % source .period)) % source .period)
-    row = leftmost (x % run .window) (s .ticks) (distance-point run s (run .first + x / run .window) is)
+  module _ {source : Source} (s : ValidSource source) {d to : ℕ} (is : d ≡ (run .interval * (run .first + x / run .window) + origin run source) % source .period) (h : FirstRight d (x % run .window) (source .period) to) where
+    row : Leftmost (source .period) (run .interval) (origin run source) (run .first + x / run .window) (x % run .window) to
+    row =
+        let e = h .is in
+        let r = h .right in
+        let n = h .near in
+        rw e (leftmost (x % run .window) (h .turns) (omega arith) (omega arith) (distance-point run s (run .first + x / run .window) is))
 
-    pub rest-found : x % run .window + (d + (source .period - x % run .window % source .period)) % source .period < run .window → FirstFrom run source x (x - x % run .window + (x % run .window + (d + (source .period - x % run .window % source .period)) % source .period))
+    pub rest-found : to < run .window → FirstFrom run source x (x - x % run .window + to)
     rest-found l = rw own-row (row-found v source x row inside l)
 
-    pub rest-none : {y : ℕ} → run .window ≤ x % run .window + (d + (source .period - x % run .window % source .period)) % source .period → FirstFrom run source ((run .first + x / run .window + 1 - run .first) * run .window) y → FirstFrom run source x y
+    pub rest-none : {y : ℕ} → run .window ≤ to → FirstFrom run source ((run .first + x / run .window + 1 - run .first) * run .window) y → FirstFrom run source x y
     rest-none out f =
         let next : run .first + x / run .window + 1 - run .first ≡ x / run .window + 1 = omega arith in
         let some = v .narrow in

@@ -60,6 +60,13 @@ pub record PointOf (run : Run) (source : Source) (at : Point) : Type 0 where
   pub begun : run .first ≤ at .line
   pub short : at .line ≤ run .last + 1
 
+-- `to` is `here` or whole periods right of it, and the first so at `from` or right of it.
+pub record FirstRight (here from period to : ℕ) : Type 0 where
+  pub turns : ℕ
+  pub is : to ≡ here + turns * period
+  pub right : from ≤ to
+  pub near : to < from + period
+
 -- The cell y is the first hit not below x, or the number of cells if there is none.
 pub record FirstFrom (run : Run) (source : Source) (x y : ℕ) : Type 0 where
   pub from : x ≤ y

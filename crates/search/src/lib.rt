@@ -8,12 +8,12 @@ use vectors::Vector;
 use vectors::first_two;
 use vectors::next;
 ghost use mathlib.Core.Path.{_≡_};
-ghost use Prim.Native.Nat.{ℕ, _+_, _-_, _*_, _%_, _≤_, _<_, max};
+ghost use Prim.Native.Nat.{ℕ, _+_, _-_, _*_, _%_, _≤_, _<_};
 ghost use Rattle.lattice.proofs.Multiples.{Above};
 ghost use Rattle.scope.specs.Run.{ValidRun, ValidSource, cellsOf};
 ghost use Rattle.scope.proofs.Hits.{origin};
 ghost use Rattle.vectors.specs.InnerSequence.{Successive};
-ghost use Rattle.search.specs.InnerSearch.{Approaching, Nearer, Seeking, Sought, PointOf, FirstFrom};
+ghost use Rattle.search.specs.InnerSearch.{Approaching, Nearer, Seeking, Sought, PointOf, FirstRight, FirstFrom};
 
 // A point of a source: its distance from the window's left edge, to the right, and its line.
 pub struct Point {
@@ -27,13 +27,6 @@ pub enum Found {
     At(Point),
     // No point within the window lies on this line or on a later one up to the last.
     Nothing,
-}
-
-// The larger of two numbers.
-fn wider(a: u64, b: u64) -> u64
-    ensures { λ r. ⌜ r ≡ max a b ⌝ }
-{
-    if a < b { b } else { a }
 }
 
 // How often a step has to be taken to go further than a gap.
@@ -56,7 +49,7 @@ fn approach(before: Vector, last: Vector, at: Point, window: u64) -> Point
         return at;
     }
     if last.offset < 0 {
-        let turns = turns_past(at.distance - wider(m, window), m);
+        let turns = turns_past(at.distance - rooms::larger(m, window), m);
         return Point {
             distance: at.distance - turns * m,
             line: at.line + turns * last.line,
@@ -146,8 +139,19 @@ fn find_from(run: Run, source: Source, at: Point) -> RunCell
     }
 }
 
-// Inner step. The first hit not below `start`, or the number of cells if there is none: on the rest of its own line the
-// point at or right of it is a remainder away, and if that lies past the window the lines after it are searched.
+// The first distance at `from` or right of it that is `here` or lies whole periods right of it.
+fn first_right(here: u64, from: u64, period: u64) -> u64
+    requires { ⌜ (here < period) × (period ≤ 2147483647) × (from ≤ 4096) ⌝ }
+    ensures { λ to. ⌜ FirstRight here from period to ⌝ }
+{
+    if from <= here {
+        return here;
+    }
+    here + turns_past(from - here - 1, period) * period
+}
+
+// Inner step. The first hit not below `start`, or the number of cells if there is none: the first point at or right of it on
+// its own line, and if that lies past the window the first on the lines after it.
 pub fn find_hit(run: Run, source: Source, start: RunCell) -> RunCell
     requires { ⌜ ValidRun run × ValidSource source × start .0 < cellsOf run ⌝ }
     ensures { λ r. ⌜ FirstFrom run source (start .0) (r .0) ⌝ }
@@ -158,7 +162,7 @@ pub fn find_hit(run: Run, source: Source, start: RunCell) -> RunCell
     let line = run.first as u64 + passed;
     let from = start.0 % window;
     let here = distance(run, source, line);
-    let to = from + (here + (period - from % period)) % period;
+    let to = first_right(here, from, period);
     if to < window {
         return RunCell(start.0 - from + to);
     }

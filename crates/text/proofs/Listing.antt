@@ -49,19 +49,19 @@ src-lines-append (e ∷ a) b =
 
 -- ---- their numbers
 
-pub valid-none : ValidLines []
+valid-none : ValidLines []
 unfolding periodsOf weightsOf
 valid-none = record { periods = up-to-none largest; weights = up-to-none largest }
 
 -- of a line and of the lines after it
-pub valid-line : (e : Entry) (entries : List Entry) → ValidLines (e ∷ entries) → UpTo largest (srcNumbers e) × ValidLines entries
+valid-line : (e : Entry) (entries : List Entry) → ValidLines (e ∷ entries) → UpTo largest (srcNumbers e) × ValidLines entries
 unfolding periodsOf weightsOf
 valid-line e entries v = (
   up-to (srcNumbers e) (v .periods 0, (v .weights 0, tt)),
   record { periods = λ k. v .periods (suc k); weights = λ k. v .weights (suc k) },
 )
 
-pub valid-cons : (e : Entry) (entries : List Entry) → UpTo largest (srcNumbers e) → ValidLines entries → ValidLines (e ∷ entries)
+valid-cons : (e : Entry) (entries : List Entry) → UpTo largest (srcNumbers e) → ValidLines entries → ValidLines (e ∷ entries)
 unfolding periodsOf weightsOf
 valid-cons e entries u v =
     record {

@@ -1,9 +1,8 @@
--- A text says one thing at most, and no second reply fits; when it is refused 11, and when it is accepted. Assumes nothing.
-use Prim.Native.Nat.{ℕ, suc}
+-- A text says one thing at most, and no second reply fits; some reply does; when it is accepted. Assumes nothing.
+use Prim.Native.Nat.{ℕ}
 use native.Mathlib.Omega.{arith}
 use mathlib.Core.Path.{_≡_, refl, sym, ap, _∙_, subst}
 use mathlib.Core.Logic.{_↔_}
-use mathlib.Core.Bool.{true, false}
 use mathlib.Core.List.{List, [], _∷_}
 use mathlib.Core.Option.{Option, some, none}
 use lib.ListN.{length, getD, take}
@@ -12,11 +11,10 @@ use Rattle.rooms.proofs.Lists.{padded-front}
 use Rattle.words.specs.Line.{line}
 use Rattle.words.proofs.Lines.{line-split}
 use Rattle.scope.specs.declared.Run.{Run}
-use Rattle.scope.specs.Run.{ceiling}
-use Rattle.scope.specs.Refusal.{Complaint, Tests, _when_, _andThen_, ofSource, nothing, orElse, placed, complaint, number, windowTests, lineTests, runTests, periodTests, weightTests}
+use Rattle.scope.specs.Refusal.{Complaint, complaint}
 use Rattle.scope.specs.Reply.{Said, refused, answered, reply, stored}
 use Rattle.scope.proofs.Judged.{Passes, grant-reply, grant-stored}
-use Rattle.sources.specs.Entry.{Entry, entryTests, listTests}
+use Rattle.sources.specs.Entry.{Entry}
 use Rattle.sources.specs.Lists.{periodsOf, weightsOf}
 use Rattle.sources.proofs.Entries.{entry, entries-of, periods-length, weights-length}
 use Rattle.text.specs.Form.{runWord, srcWord, runNumbers, srcNumbers, srcLines, textOf, Content, Spells}
@@ -35,7 +33,7 @@ run-same e = ap (λ l. record { window = getD l 0 0; interval = getD l 1 0; firs
 entry-same : {a b : Entry} → srcNumbers a ≡ srcNumbers b → a ≡ b
 entry-same e = ap (λ l. entry (getD l 0 0) (getD l 1 0)) e
 
-pub lines-injective : (a b : List Entry) → srcLines a ≡ srcLines b → a ≡ b
+lines-injective : (a b : List Entry) → srcLines a ≡ srcLines b → a ≡ b
 unfolding srcLines line
 lines-injective [] [] e = refl
 lines-injective [] (g ∷ b) e = absurd (let z = ap length e in omega arith)
@@ -94,68 +92,6 @@ text-exists text =
       record { answer = answer (replyTo o); count = length (handed o); periods = padded 64 (periodsOf (handed o)); weights = padded 64 (weightsOf (handed o)) },
       record { content = o; reads = r; says = says-answer (replyTo o); counts = refl; periods = refl; weights = refl },
     )
-
--- ---- 11 exactly when the text has not the form
-
--- the complaint, if there is one, has another number than n
-abbrev Other : ℕ → Option Complaint → Type 0
-Other n none = Unit {0}
-Other n (some c) = number (c .reason) ≡ n → ⊥
-
--- none of the tests has the number n
-abbrev Apart : ℕ → Tests → Type 0
-Apart n (reason when wrong) = number reason ≡ n → ⊥
-Apart n (first andThen rest) = Apart n first × Apart n rest
-Apart n (ofSource k tests) = Apart n tests
-Apart n nothing = Unit {0}
-
-apart-other : (n : ℕ) (tests : Tests) → Apart n tests → Other n (complaint tests)
-unfolding complaint
-apart-other n (reason when true) a = a
-apart-other n (reason when false) a = tt
-apart-other n (first andThen rest) a = go (complaint first) (complaint rest) (apart-other n first (a .0)) (apart-other n rest (a .1))
-  where
-    go : (x y : Option Complaint) → Other n x → Other n y → Other n (orElse x y)
-    go none y o p = p
-    go (some c) y o p = o
-apart-other n (ofSource k tests) a = go (complaint tests) (apart-other n tests a)
-  where
-    go : (x : Option Complaint) → Other n x → Other n (placed k x)
-    go none o = o
-    go (some c) o = o
-apart-other n nothing a = tt
-
--- no test of what a text says has the number 11
-tests-apart : (content : Content) → Apart 11 (textTests content)
-unfolding textTests runTests windowTests lineTests periodTests weightTests entryTests listTests number
-tests-apart content =
-    let window : _≡_ {A = ℕ} 1 11 → ⊥ = λ e. omega arith in
-    let lines : _≡_ {A = ℕ} 2 11 → ⊥ = λ e. omega arith in
-    let interval : _≡_ {A = ℕ} 3 11 → ⊥ = λ e. omega arith in
-    let many : _≡_ {A = ℕ} 12 11 → ⊥ = λ e. omega arith in
-    search (window, lines, interval, many, list 1 (content .entries)) depth 12
-  where
-    list : (k : ℕ) (entries : List Entry) → Apart 11 (listTests ceiling k entries)
-    list k [] = tt
-    list k (e ∷ entries) =
-        let period : _≡_ {A = ℕ} 4 11 → ⊥ = λ z. omega arith in
-        let weight : _≡_ {A = ℕ} 7 11 → ⊥ = λ z. omega arith in
-        (((period, period), (weight, weight)), list (suc k) entries)
-
-pub refused-form : (text : List ℕ) (input : Input) → TextPromise text input → (input .answer ≡ Refused 11) ↔ Reads text none
-unfolding number
-refused-form text input p = (λ e. go (p .content) (p .reads) (sym (ap saysText e) ∙ p .says), back)
-  where
-    other : (run : Run) (x : Option Complaint) → Other 11 x → refused 11 ≡ reply x run → ⊥
-    other run none o e = let z : _≡_ {A = ℕ} 0 1 = cc in omega arith
-    other run (some c) o e = o (cc)
-
-    go : (o : Option Content) → Reads text o → refused 11 ≡ replyTo o → Reads text none
-    go none r e = r
-    go (some d) r e = absurd (other (d .run) (complaint (textTests d)) (apart-other 11 (textTests d) (tests-apart d)) e)
-
-    back : Reads text none → input .answer ≡ Refused 11
-    back n = says-text-injective (input .answer) (Refused 11) (p .says ∙ ap replyTo (reads-unique text (p .content) none (p .reads) n))
 
 -- ---- accepted with a run and sources exactly if the text is their rendering and they pass the tests
 

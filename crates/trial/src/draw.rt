@@ -1,5 +1,6 @@
 // Random small runs and sources. They are drawn so that each kind of source comes often: a period below the window, equal to
-// it and above it, a remainder of 0, a large common factor of the period and the interval.
+// it and above it, a remainder of 0, a large common factor of the period and the interval. Then a number here and there is made one
+// at which 01's table changes, so that faults come, and two at once.
 use crate::numbers;
 use crate::numbers::below;
 use crate::numbers::up_to;
@@ -60,40 +61,70 @@ pub fn draw_case(state: u64) -> Case {
     }
 }
 
-// Draws a source for each place of two lists, the first with the period of a case. Every third repeats the period of the one before.
-pub fn draw_sources(periods: &mut [u32], weights: &mut [u32], case: Case, state: u64) {
+// A number at which a test of 01's table changes.
+fn edge(state: u64) -> u32 {
+    match state % 16 {
+        0 | 1 | 2 => 0,
+        3 => 1,
+        4 => 3,
+        5 => 255,
+        6 => 256,
+        7 => 4096,
+        8 => 4098,
+        9 => 16777216,
+        10 => 16777217,
+        11 => 2147483647,
+        12 => 2147483648,
+        _ => 4294967295,
+    }
+}
+
+// A number as it is; or, one time in so many, another.
+pub fn maybe(number: u32, state: u64, seldom: u32) -> u32 {
+    if below(state, seldom) == 0 {
+        return edge(state);
+    }
+    number
+}
+
+// A run with a fault here and there.
+pub fn spoilt_run(run: Run, state: u64) -> Run {
+    let b = numbers::next(state);
+    let c = numbers::next(b);
+    let d = numbers::next(c);
+    Run {
+        window: maybe(run.window, state, 16),
+        interval: maybe(run.interval, b, 16),
+        first: maybe(run.first, c, 16),
+        last: maybe(run.last, d, 16),
+    }
+}
+
+// A length as it is to be; or, one time in sixteen, off by one or by a step.
+pub fn length(right: usize, step: usize, state: u64) -> usize {
+    match state % 64 {
+        0 => std::num::wrapping_add_usize(right, step),
+        1 => std::num::wrapping_sub_usize(right, step),
+        2 => std::num::wrapping_add_usize(right, 1),
+        3 => std::num::wrapping_sub_usize(right, 1),
+        _ => right,
+    }
+}
+
+// Draws a source for each place of two lists, the first with the period of a case, with a fault one time in so many. Every third
+// repeats the period of the one before.
+pub fn draw_sources(periods: &mut [u32], weights: &mut [u32], case: Case, state: u64, seldom: u32) {
     let all = periods.len();
     let mut last = case.period;
     let mut s = state;
     let mut k: usize = 0;
     while k < all {
-        numbers::put_number(periods, k, last);
-        numbers::put_number(weights, k, up_to(s, 255));
+        numbers::put_number(periods, k, maybe(last, s, seldom));
         s = numbers::next(s);
+        numbers::put_number(weights, k, maybe(up_to(s, 255), s >> 7, seldom));
         if k % 3 != 2 {
             last = period(s >> 9, case.run.window, up_to(s, 24));
         }
         k += 1;
     }
-}
-
-// A part of a run's lines, as a run.
-pub fn part_of(run: Run, first: u32, last: u32) -> Run {
-    Run {
-        window: run.window,
-        interval: run.interval,
-        first,
-        last,
-    }
-}
-
-// A line at which a run is cut in two: any but the first if there are more.
-pub fn cut_of(run: Run, state: u64) -> u32 {
-    let others = numbers::sub32(run.last, run.first);
-    numbers::add32(run.last, numbers::sub32(0, below(state, others)))
-}
-
-// How many cells of a run stand before a line.
-pub fn cells_before(run: Run, line: u32) -> usize {
-    numbers::product(run.window, numbers::sub32(line, run.first)) as usize
 }

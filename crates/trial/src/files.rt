@@ -1,11 +1,11 @@
-// Saved maps: what is saved is as 01 lays it down and reads back; with two faults at once put into the file, the first refusal in
-// 01's order is given. The layout is written down here once more, without the library's code.
-use crate::faults;
-use crate::faults::has;
-use crate::faults::when;
+// Saved maps, saved and read, compared with 01's layout, which is written down here once more, without the library's code. A file that
+// is read has up to two bytes changed, most often with the check put right again.
+use crate::draw;
+use crate::draw::Case;
 use crate::numbers;
 use crate::reference;
-use crate::tally;
+use crate::reference::first_of;
+use crate::reference::when;
 use saved::Loaded;
 use saved::Saved;
 use scope::Run;
@@ -83,8 +83,11 @@ fn lay_down_byte(run: Run, map: &[u8], file: &mut [u8], at: usize) {
     seal(file, at);
 }
 
-// Puts a file as 01 lays it down.
-fn lay_down(run: Run, map: &[u8], file: &mut [u8]) {
+// Puts a file as 01 lays it down. With a refusal it stays as it is.
+fn lay_down(refusal: u8, run: Run, map: &[u8], file: &mut [u8]) {
+    if refusal != 0 {
+        return;
+    }
     let all = file.len();
     let mut at: usize = 0;
     while at < all {
@@ -93,171 +96,232 @@ fn lay_down(run: Run, map: &[u8], file: &mut [u8]) {
     }
 }
 
-// Whether a map that is saved in a room with other bytes gives the file as laid down.
-fn saves(run: Run, map: &[u8], file: &mut [u8], expected: &[u8]) -> bool {
-    match saved::save(run, map, file) {
-        Saved::Done => numbers::same_bytes(file, expected),
-        Saved::Refused(_) => false,
+// The number that saving refuses with; 0 if it does not.
+fn says(reply: Saved) -> u8 {
+    match reply {
+        Saved::Done => 0,
+        Saved::Refused(number) => number,
     }
 }
 
-// Whether reading a file into a room is refused with this number, the room left as it was before; or, for 0, gives the run and the
-// map that it was saved with.
-fn reads(file: &[u8], run: Run, map: &[u8], room: &mut [u8], before: &[u8], number: u8) -> bool {
-    match saved::read(file, room) {
-        Loaded::Refused(said) => number == said && numbers::same_bytes(room, before),
-        Loaded::Of(said) => number == 0
-            && reference::same_run(said, run)
-            && numbers::same_bytes(room, map),
+// Whether saving a map makes of a room with other bytes the file as laid down, or refuses and leaves it.
+fn saves(run: Run, map: &[u8], file: &mut [u8], expected: &mut [u8]) -> bool {
+    let cells = map.len();
+    let room = file.len() != reference::file_length(cells);
+    let lengths = when(reference::cells(run) != cells || room, 9);
+    let number = first_of(reference::judge_run(run), lengths);
+    lay_down(number, run, map, expected);
+    says(saved::save(run, map, file)) == number && numbers::same_bytes(file, expected)
+}
+
+// The same with the first cells of a map, and room for so many bytes.
+fn saves_first(run: Run, map: &[u8], size: usize, bytes: usize) -> bool {
+    let mut file = [170u8; 2049];
+    let mut expected = [170u8; 2049];
+    if map.len() < size {
+        return false;
+    }
+    if 2049 < bytes {
+        return false;
+    }
+    saves(
+        run,
+        &map[0..size],
+        &mut file[0..bytes],
+        &mut expected[0..bytes],
+    )
+}
+
+// Whether a random map of a case, with a fault here and there, is saved as it is to be.
+pub fn saving_agrees(case: Case, state: u64) -> bool {
+    let mut map = [0u8; 1025];
+    let cells = reference::cells(case.run);
+    numbers::draw_bytes(&mut map, state);
+    saves_first(
+        draw::spoilt_run(case.run, state),
+        &map,
+        draw::length(cells, 1, state >> 20),
+        draw::length(reference::file_length(cells), 512, state >> 26),
+    )
+}
+
+// The number in the four bytes from a position on.
+fn number_at(file: &[u8], at: usize) -> u32 {
+    let at = at % 16777216;
+    let low = numbers::byte_at(file, at) as u32 + 256 * numbers::byte_at(file, at + 1) as u32;
+    low
+        + 65536 * numbers::byte_at(file, at + 2) as u32
+        + 16777216 * numbers::byte_at(file, at + 3) as u32
+}
+
+// The run that block 0 tells.
+fn run_of(file: &[u8]) -> Run {
+    Run {
+        window: number_at(file, 8),
+        interval: number_at(file, 12),
+        first: number_at(file, 16),
+        last: number_at(file, 20),
     }
 }
 
-// The same with room for so many cells.
-fn reads_with(file: &[u8], run: Run, map: &[u8], size: usize, number: u8) -> bool {
+// Whether the bytes of a file from one position to another are zero.
+fn zeros(file: &[u8], from: usize, end: usize) -> bool {
+    let mut at = from;
+    while at < end {
+        if numbers::byte_at(file, at) != 0 {
+            return false;
+        }
+        at += 1;
+    }
+    true
+}
+
+// 14: the number or the check of a block is wrong.
+fn judge_sealed(file: &[u8], block: usize) -> u8 {
+    let block = block % 65536;
+    let start = 512 * block;
+    let number = number_at(file, start) as usize != block;
+    when(
+        number || number_at(file, start + 508) != check(file, start),
+        14,
+    )
+}
+
+// 15 of block 0: version, bytes 5-7 or bytes 24-507 not as laid down.
+fn judge_heading(file: &[u8]) -> u8 {
+    let version = number_at(file, 4) == 1;
+    when(!version || !zeros(file, 24, 508), 15)
+}
+
+// 15 of a later block: what is after a run's cells is not zero.
+fn judge_filling(file: &[u8], block: usize, cells: usize) -> u8 {
+    let block = block % 65536;
+    let start = 512 * block + 4;
+    let before = 504 * block;
+    if before <= cells {
+        return 0;
+    }
+    let filling = before - cells;
+    if 504 < filling {
+        return 0;
+    }
+    when(!zeros(file, start + (504 - filling), start + 504), 15)
+}
+
+// 14 before 15, block by block after block 0.
+fn judge_blocks(file: &[u8], cells: usize) -> u8 {
+    let all = file.len() / 512;
+    let mut block: usize = 1;
+    while block < all {
+        let number = first_of(judge_sealed(file, block), judge_filling(file, block, cells));
+        if number != 0 {
+            return number;
+        }
+        block += 1;
+    }
+    0
+}
+
+// The refusals of reading a file into room for so many cells, in 01's order.
+fn judge(file: &[u8], room: usize) -> u8 {
+    let bytes = file.len();
+    let run = run_of(file);
+    let cells = reference::cells(run);
+    let whole = when(bytes % 512 != 0 || bytes == 0, 13);
+    let heading = first_of(judge_sealed(file, 0), judge_heading(file));
+    let count = when(bytes != reference::file_length(cells), 13);
+    let first = first_of(whole, first_of(heading, reference::judge_run(run)));
+    let later = first_of(judge_blocks(file, cells), when(cells != room, 9));
+    first_of(first, first_of(count, later))
+}
+
+// Puts the cells of a file into a map. With a refusal that stays as it is.
+fn put_cells(refusal: u8, file: &[u8], map: &mut [u8]) {
+    if refusal != 0 {
+        return;
+    }
+    let all = map.len();
+    let mut x: usize = 0;
+    while x < all {
+        let cell = x % 16777216;
+        let at = (cell / 504 + 1) * 512 + cell % 504 + 4;
+        numbers::put_byte(map, x, numbers::byte_at(file, at));
+        x += 1;
+    }
+}
+
+// Whether reading makes of a room with other bytes the file's map and answers with its run, or refuses and leaves the room.
+fn reads(file: &[u8], room: &mut [u8], expected: &mut [u8]) -> bool {
+    let number = judge(file, room.len());
+    put_cells(number, file, expected);
+    let fine = match saved::read(file, room) {
+        Loaded::Refused(said) => number != 0 && said == number,
+        Loaded::Of(run) => number == 0 && reference::same_run(run, run_of(file)),
+    };
+    fine && numbers::same_bytes(room, expected)
+}
+
+// The same with the first bytes of a file, and room for so many cells.
+fn reads_first(file: &[u8], bytes: usize, size: usize) -> bool {
     let mut room = [170u8; 1025];
-    let before = [170u8; 1025];
+    let mut expected = [170u8; 1025];
+    if file.len() < bytes {
+        return false;
+    }
     if 1025 < size {
         return false;
     }
-    reads(file, run, map, &mut room[0..size], &before[0..size], number)
+    reads(&file[0..bytes], &mut room[0..size], &mut expected[0..size])
 }
 
-// The faults of reading, after those of the run.
-const LENGTH: u64 = 8;
-
-const HEADING_CHECK: u64 = 16;
-
-const HEADING: u64 = 32;
-
-const COUNT: u64 = 64;
-
-const BLOCK_CHECK: u64 = 128;
-
-const FILLING: u64 = 256;
-
-const ROOM: u64 = 512;
-
-// The first refusal of a set of faults; 0 if there is none. 13, 14 and 15 come twice, before the run's and after.
-fn refusal(faults: u64) -> u8 {
-    let heading = faults::first_of(
-        when(has(faults, LENGTH), 13),
-        when(has(faults, HEADING_CHECK), 14),
-        when(has(faults, HEADING), 15),
-    );
-    let blocks = faults::first_of(
-        when(has(faults, COUNT), 13),
-        when(has(faults, BLOCK_CHECK), 14),
-        when(has(faults, FILLING), 15),
-    );
-    let run = faults::first_of(heading, faults::run_refusal(faults), blocks);
-    faults::first_of(run, when(has(faults, ROOM), 9), 0)
+// A position of a file: of a block's number, in the heading, in its filling, near the end of the last block, or anywhere.
+fn position(bytes: usize, state: u64) -> usize {
+    let any = numbers::rest(state >> 16, bytes as u64) as usize;
+    match state % 8 {
+        0 => any / 512 * 512,
+        1 | 2 | 3 => 4 + any % 20,
+        4 => 24 + any % 484,
+        5 => std::num::wrapping_sub_usize(bytes, 5 + any % 16),
+        _ => any,
+    }
 }
 
-// Puts a fault into the version, a spare byte or the filling of block 0, if that is a fault.
-fn spoil_heading(file: &mut [u8], fault: bool, state: u64) {
-    if !fault {
+// Changes a byte of a file one time in two, most often with the check put right.
+fn damage(file: &mut [u8], bytes: usize, state: u64) {
+    let at = position(bytes, state >> 4);
+    let byte = numbers::byte_at(file, at);
+    if state % 2 == 0 {
         return;
     }
-    let byte = numbers::low8(2 + state % 200);
-    match state % 3 {
-        0 => numbers::put_byte(file, 4, byte),
-        1 => numbers::put_byte(file, 5 + (state >> 8) as usize % 3, byte),
-        _ => numbers::put_byte(file, 24 + (state >> 8) as usize % 484, byte),
-    }
-}
-
-// Puts a byte into the filling of the block at a position, if that is a fault.
-fn spoil_filling(file: &mut [u8], fault: bool, at: usize) {
-    if !fault {
+    numbers::put_byte(file, at, byte ^ numbers::low8(1 << (state >> 40) % 8));
+    if state % 16 < 4 {
         return;
     }
-    numbers::put_byte(file, at % 16777216 / 512 * 512 + 507, 1);
     seal(file, at);
 }
 
-// Makes the number of the block at a position wrong, or its check, if that is a fault.
-fn spoil_check(file: &mut [u8], fault: bool, at: usize, state: u64) {
-    if !fault {
-        return;
-    }
-    let at = at % 16777216 / 512 * 512;
-    if state % 2 == 0 {
-        put_number(file, at, 77);
-        seal(file, at);
-        return;
-    }
-    let byte = at + 4 + (state >> 8) as usize % 508;
-    let other = numbers::byte_at(file, byte) ^ 64;
-    numbers::put_byte(file, byte, other);
+// Puts the file of a run and a random map.
+fn lay_down_drawn(run: Run, map: &mut [u8], file: &mut [u8], state: u64) {
+    numbers::draw_bytes(map, state);
+    lay_down(0, run, map, file);
 }
 
-// Puts the numbers of a run into block 0.
-fn put_run(file: &mut [u8], run: Run) {
-    put_number(file, 8, run.window);
-    put_number(file, 12, run.interval);
-    put_number(file, 16, run.first);
-    put_number(file, 20, run.last);
-}
-
-// Puts faults into a sound block 0: first what stands under its check, then the check.
-fn spoil_first(file: &mut [u8], run: Run, faults: u64, state: u64) {
-    put_run(file, faults::spoil_run(run, faults, state >> 8));
-    spoil_heading(file, has(faults, HEADING), state >> 20);
-    seal(file, 0);
-    spoil_check(file, has(faults, HEADING_CHECK), 0, state >> 30);
-}
-
-// The same with the blocks after it, of which the last starts at a position.
-fn spoil_others(file: &mut [u8], last: usize, faults: u64, state: u64) {
-    let other = if state % 2 == 0 { 512 } else { last };
-    spoil_filling(file, has(faults, FILLING), last);
-    spoil_check(file, has(faults, BLOCK_CHECK), other, state >> 1);
-}
-
-// Whether a file of so many bytes, in a room with a sound block after it, is refused by the first of two faults.
-fn refused(room: &mut [u8], right: usize, run: Run, map: &[u8], faults: u64, state: u64) -> bool {
-    spoil_first(room, run, faults, state);
-    spoil_others(
-        room,
-        std::num::wrapping_sub_usize(right, 512),
-        faults,
-        state >> 40,
-    );
-    let count = faults::length(has(faults, COUNT), right, 512, state);
-    let bytes = faults::length(has(faults, LENGTH), count, 1, state >> 1);
-    let size = faults::length(has(faults, ROOM), map.len(), 1, state >> 2);
-    if room.len() < bytes {
+// Whether the file of a case and a random map is read as it is to be, with up to two bytes changed and a wrong length here and there.
+// After it stand sound blocks.
+pub fn reading_agrees(case: Case, state: u64) -> bool {
+    let mut map = [0u8; 1024];
+    let mut file = [0u8; 2560];
+    let cells = reference::cells(case.run);
+    let bytes = reference::file_length(cells);
+    if 1024 < cells {
         return false;
     }
-    reads_with(&room[0..bytes], run, map, size, refusal(faults))
-}
-
-// Saves and reads the map of a run, and reads it with faults. A last block that is full has no filling to be at fault.
-pub fn try_file(ledger: &mut [u64], run: Run, map: &[u8], state: u64) {
-    let mut room = [0u8; 2048];
-    let mut file = [170u8; 2048];
-    let cells = map.len();
-    let right = reference::file_length(cells);
-    if 2048 < right {
-        tally::count(ledger, tally::SAVED, false);
-        return;
-    }
-    lay_down(run, map, &mut room);
-    tally::count(
-        ledger,
-        tally::SAVED,
-        saves(run, map, &mut file[0..right], &room[0..right]),
-    );
-    tally::count(
-        ledger,
-        tally::READ,
-        reads_with(&room[0..right], run, map, cells, 0),
-    );
-    let drawn = faults::two(numbers::next(state), 11);
-    let faults = if cells % 504 == 0 { drawn & 767 } else { drawn };
-    tally::count(
-        ledger,
-        tally::READING_FAULTS,
-        refused(&mut room, right, run, map, faults, state),
-    );
+    lay_down_drawn(case.run, &mut map[0..cells], &mut file, state);
+    damage(&mut file, bytes, state);
+    damage(&mut file, bytes, numbers::next(state));
+    reads_first(
+        &file,
+        draw::length(bytes, 512, state >> 26),
+        draw::length(cells, 1, state >> 20),
+    )
 }

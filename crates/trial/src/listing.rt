@@ -4,7 +4,8 @@ use crate::draw::Case;
 use crate::numbers;
 use crate::reference;
 use crate::reference::Listed;
-use crate::tally;
+use crate::reference::first_of;
+use crate::reference::when;
 use crate::turning;
 use hits::FirstHit;
 use hits::Listing;
@@ -13,7 +14,7 @@ use scope::RunCell;
 use scope::Source;
 
 // What a room holds before a call. It is no cell of any run.
-pub const NO_CELL: u64 = 18446744073709551614;
+const NO_CELL: u64 = 18446744073709551614;
 
 // The first marked cell not below a start, or the number of cells if there is none.
 fn first_mark(marks: &[u8], start: u64) -> u64 {
@@ -21,14 +22,88 @@ fn first_mark(marks: &[u8], start: u64) -> u64 {
     reference::expect_listing(marks, start, &mut room[0..0]).next
 }
 
-// Whether the first hit from a cell on is the first marked cell, and "none" is said exactly if there is none.
-pub fn first_hit_agrees(run: Run, period: u32, marks: &[u8], start: u64) -> bool {
+// The refusals of first hit and listing, but for an empty room.
+fn judge(run: Run, period: u32, start: u64) -> u8 {
+    let outside = when(reference::cells(run) as u64 <= start, 8);
+    first_of(
+        reference::judge_run(run),
+        first_of(reference::judge_period(period), outside),
+    )
+}
+
+// A start in a run, or now and then after it.
+fn draw_start(run: Run, state: u64) -> u64 {
+    let cells = reference::cells(run) as u64;
+    numbers::rest(state >> 16, numbers::add(cells, cells / 8 + 1))
+}
+
+// Whether the first hit is the first marked cell, and "none" is said exactly if there is none. The marks are 0 before.
+fn first_is(reply: FirstHit, run: Run, period: u32, start: u64, marks: &mut [u8]) -> bool {
+    reference::mark(run, period, marks);
+    let all = marks.len() as u64;
     let hit = first_mark(marks, start);
-    match hits::first_hit(run, Source { period }, RunCell(start)) {
-        FirstHit::At(cell) => hit < marks.len() as u64 && cell.0 == hit,
+    match reply {
+        FirstHit::At(cell) => hit < all && cell.0 == hit,
+        FirstHit::Nothing => hit == all,
+        FirstHit::Refused(_) => false,
+    }
+}
+
+// Whether a reply of the first hit is a refusal with a number.
+fn first_refused(reply: FirstHit, number: u8) -> bool {
+    match reply {
+        FirstHit::Refused(said) => said == number,
+        FirstHit::At(_) => false,
+        FirstHit::Nothing => false,
+    }
+}
+
+// Whether the first hit of a case, with a fault here and there, is as it is to be. Longer runs are told by the Rust tests.
+pub fn first_hit_agrees(case: Case, state: u64) -> bool {
+    let mut marks = [0u8; 1024];
+    let run = draw::spoilt_run(case.run, state);
+    let period = draw::maybe(case.period, state >> 9, 16);
+    let start = draw_start(run, state);
+    let number = judge(run, period, start);
+    let cells = reference::cells(run);
+    let reply = hits::first_hit(run, Source { period }, RunCell(start));
+    if number != 0 {
+        return first_refused(reply, number);
+    }
+    if 1024 < cells {
+        return !first_refused(reply, 0);
+    }
+    first_is(reply, run, period, start, &mut marks[0..cells])
+}
+
+// Whether a block's first hit, its cell turned into the run's, is the run's first marked cell from the block's first line on. The
+// marks are 0 before.
+fn turned_is(run: Run, period: u32, first: u32, marks: &mut [u8]) -> bool {
+    reference::mark(run, period, marks);
+    let before = numbers::product(run.window, numbers::sub32(first, run.first));
+    let hit = first_mark(marks, before);
+    match hits::first_hit(turning::block_of(run, first), Source { period }, RunCell(0)) {
+        FirstHit::At(cell) => turning::in_run(run, first, cell).0 == hit,
         FirstHit::Nothing => hit == marks.len() as u64,
         FirstHit::Refused(_) => false,
     }
+}
+
+// The same of a case, cut at a random line.
+pub fn block_agrees(case: Case, state: u64) -> bool {
+    let mut marks = [0u8; 1024];
+    let run = case.run;
+    let cells = reference::cells(run);
+    let lines = numbers::add32(numbers::sub32(run.last, run.first), 1);
+    if 1024 < cells {
+        return false;
+    }
+    turned_is(
+        run,
+        case.period,
+        numbers::add32(run.first, numbers::below(state, lines)),
+        &mut marks[0..cells],
+    )
 }
 
 // Whether a reply is what a listing is to answer: "more" exactly if the next hit is a cell of the run.
@@ -42,38 +117,30 @@ fn reply_is(reply: Listing, expected: Listed, all: u64) -> bool {
     }
 }
 
-// One listing in a room, and in another what it is to leave there. Answers where to go on: at the number of cells the listing is done.
+// Whether one listing is as it is to be in a room; in another is put what is to be left there.
 fn list_once(
-    ledger: &mut [u64],
-    case: Case,
+    run: Run,
+    period: u32,
     start: u64,
     room: &mut [u64],
     expected: &mut [u64],
     marks: &[u8],
-) -> u64 {
-    let all = marks.len() as u64;
-    let source = Source {
-        period: case.period,
-    };
-    let reply = hits::list_hits(case.run, source, RunCell(start), room);
+) -> bool {
+    let reply = hits::list_hits(run, Source { period }, RunCell(start), room);
     let listed = reference::expect_listing(marks, start, expected);
-    let fine = reply_is(reply, listed, all) && numbers::same_longs(room, expected);
-    let full = listed.count == room.len();
-    tally::count_if(ledger, full && listed.next < all, tally::HIT_LEFT, fine);
-    tally::count_if(ledger, full && listed.next == all, tally::NONE_LEFT, fine);
-    if fine { listed.next } else { turning::WRONG }
+    reply_is(reply, listed, marks.len() as u64) && numbers::same_longs(room, expected)
 }
 
 // The same with room for so many hits, up to 8.
-fn list_with(ledger: &mut [u64], case: Case, start: u64, size: usize, marks: &[u8]) -> u64 {
+fn list_with(run: Run, period: u32, start: u64, size: usize, marks: &[u8]) -> bool {
     let mut room = [NO_CELL; 8];
     let mut expected = [NO_CELL; 8];
     if 8 < size {
-        return turning::WRONG;
+        return false;
     }
     list_once(
-        ledger,
-        case,
+        run,
+        period,
         start,
         &mut room[0..size],
         &mut expected[0..size],
@@ -81,25 +148,28 @@ fn list_with(ledger: &mut [u64], case: Case, start: u64, size: usize, marks: &[u
     )
 }
 
-// Whether the listings from a cell on, each with a random room and from where the one before stopped, give the marked cells. A block
-// without lines has none.
-pub fn listing_agrees(
-    ledger: &mut [u64],
-    case: Case,
-    marks: &[u8],
-    start: u64,
-    state: u64,
-) -> bool {
-    let all = marks.len();
-    if all == 0 {
-        return true;
+// The cell after so many marked cells from a start on, or the number of cells.
+fn after(marks: &[u8], start: u64, count: usize) -> u64 {
+    let mut room = [0u64; 8];
+    if 8 < count {
+        return 0;
     }
+    reference::expect_listing(marks, start, &mut room[0..count]).next
+}
+
+// Whether the listings from a cell on, each with a random room and from where the one before is to stop, give the marked cells.
+fn list_all(run: Run, period: u32, start: u64, marks: &[u8], state: u64) -> bool {
+    let all = marks.len();
     let mut at = start;
     let mut s = state;
     let mut turns: usize = 0;
     while turns < all {
         s = numbers::next(s);
-        at = list_with(ledger, case, at, numbers::up_to(s, 6) as usize, marks);
+        let size = numbers::up_to(s, 6) as usize;
+        if !list_with(run, period, at, size, marks) {
+            return false;
+        }
+        at = after(marks, at, size);
         if at == all as u64 {
             return true;
         }
@@ -108,34 +178,49 @@ pub fn listing_agrees(
     false
 }
 
-// Whether a block's first hit, its cell turned into the run's, is the run's first marked cell from the block's first line on.
-fn first_in_block_agrees(run: Run, period: u32, first: u32, marks: &[u8]) -> bool {
-    let hit = first_mark(marks, draw::cells_before(run, first) as u64);
-    let block = draw::part_of(run, first, run.last);
-    match hits::first_hit(block, Source { period }, RunCell(0)) {
-        FirstHit::At(cell) => turning::in_run(run, first, cell).0 == hit,
-        FirstHit::Nothing => hit == marks.len() as u64,
-        FirstHit::Refused(_) => false,
+// The same with marks that are 0 before.
+fn list_marked(run: Run, period: u32, start: u64, marks: &mut [u8], state: u64) -> bool {
+    reference::mark(run, period, marks);
+    list_all(run, period, start, marks, state)
+}
+
+// Whether listing is refused with a number, a room of so many places, up to 8, left as it was.
+fn refused(run: Run, period: u32, start: u64, size: usize, number: u8) -> bool {
+    let mut room = [NO_CELL; 8];
+    if 8 < size {
+        return false;
+    }
+    refused_in(run, period, start, &mut room[0..size], number)
+}
+
+// The same in a room of no cells.
+fn refused_in(run: Run, period: u32, start: u64, room: &mut [u64], number: u8) -> bool {
+    let before = [NO_CELL; 8];
+    let all = room.len();
+    if 8 < all {
+        return false;
+    }
+    match hits::list_hits(run, Source { period }, RunCell(start), room) {
+        Listing::Refused(said) => said == number && numbers::same_longs(room, &before[0..all]),
+        Listing::Done(_) => false,
+        Listing::More(_, _) => false,
     }
 }
 
-// Whether the two blocks of a run that is cut at a line are listed from their cell 0 on as they are marked in the run.
-pub fn blocks_agree(ledger: &mut [u64], case: Case, marks: &[u8], cut: u32, state: u64) -> bool {
-    let run = case.run;
-    let period = case.period;
-    let at = draw::cells_before(run, cut);
-    if marks.len() < at {
-        return false;
+// Whether the listing of a case, with a fault here and there, is as it is to be.
+pub fn listing_agrees(case: Case, state: u64) -> bool {
+    let mut marks = [0u8; 1024];
+    let run = draw::spoilt_run(case.run, state);
+    let period = draw::maybe(case.period, state >> 9, 16);
+    let start = draw_start(run, state);
+    let size = numbers::below(state, 8) as usize;
+    let number = first_of(judge(run, period, start), when(size == 0, 9));
+    let cells = reference::cells(run);
+    if number != 0 {
+        return refused(run, period, start, size, number);
     }
-    let upper = Case {
-        run: draw::part_of(run, run.first, numbers::sub32(cut, 1)),
-        period,
-    };
-    let lower = Case {
-        run: draw::part_of(run, cut, run.last),
-        period,
-    };
-    let above = listing_agrees(ledger, upper, &marks[0..at], 0, state);
-    let below = listing_agrees(ledger, lower, &marks[at..], 0, state);
-    above && below && first_in_block_agrees(run, period, cut, marks)
+    if 1024 < cells {
+        return true;
+    }
+    list_marked(run, period, start, &mut marks[0..cells], state)
 }

@@ -1,23 +1,64 @@
-// The test program: 01's bench figures without a star, random small runs against a walk over all cells, and two faults at once in
-// each call, in a saved map and in a text.
+// The test program: 01's bench figures without a star, and random small runs, with a fault here and there and two at once, through
+// every operation, against a walk over all cells, 01's layout of a file and its table of refusals.
 // Each line that it prints says how many cases of a kind were tried, and how many of them were bad. Every function is proved
 // safe and ending; that none is bad is what the stored output holds the program to.
 mod draw;
-mod faults;
+mod figures;
 mod files;
 mod listing;
 mod mapping;
 mod numbers;
 mod reference;
-mod refusals;
 mod reports;
-mod small;
 mod steps;
 mod tally;
 mod texts;
 mod turning;
 
-const TURNS: u32 = 1200;
+use draw::Case;
+
+const TURNS: u32 = 2000;
+
+// Counts a case under its kinds, by the reference alone, so that a kind that never came is seen.
+fn count_kinds(ledger: &mut [u64], window: u32, period: u32, remainder: u32, fine: bool) {
+    let short = period < window;
+    let single = window <= reference::greatest_common_divisor(remainder, period);
+    tally::count_if(ledger, short, tally::SHORT, fine);
+    tally::count_if(ledger, !short && single, tally::SINGLE, fine);
+    tally::count_if(ledger, !short && !single, tally::PAIR, fine);
+    tally::count_if(ledger, remainder == 0, tally::NO_REMAINDER, fine);
+    tally::count_if(ledger, period == window, tally::EQUAL, fine);
+}
+
+// The calls that know no map.
+fn try_hits(ledger: &mut [u64], case: Case, state: u64) {
+    let block = listing::block_agrees(case, state);
+    let run = case.run;
+    let remainder = numbers::rest(run.interval as u64, case.period as u64);
+    tally::count(ledger, tally::VECTORS, steps::vectors_agree(case, state));
+    tally::count(
+        ledger,
+        tally::FIRST_HIT,
+        listing::first_hit_agrees(case, state),
+    );
+    tally::count(ledger, tally::LISTING, listing::listing_agrees(case, state));
+    tally::count(ledger, tally::BLOCK, block);
+    count_kinds(
+        ledger,
+        run.window,
+        case.period,
+        numbers::low32(remainder),
+        block,
+    );
+}
+
+// The calls with a map, a file or a text.
+fn try_maps(ledger: &mut [u64], case: Case, state: u64) {
+    tally::count(ledger, tally::MAP, mapping::map_agrees(case, state));
+    tally::count(ledger, tally::SAVING, files::saving_agrees(case, state));
+    tally::count(ledger, tally::READING, files::reading_agrees(case, state));
+    tally::count(ledger, tally::TEXT, texts::text_agrees(case, state));
+}
 
 // Tries all random cases. The first state is fixed, so that the same are drawn each time.
 fn try_all(ledger: &mut [u64]) {
@@ -26,26 +67,46 @@ fn try_all(ledger: &mut [u64]) {
     while turns < TURNS {
         state = numbers::next(state);
         let case = draw::draw_case(state);
-        small::compare(ledger, case, state);
-        refusals::try_each(ledger, state);
-        texts::try_text(ledger, case, state);
+        state = numbers::next(state);
+        try_hits(ledger, case, state);
+        try_maps(ledger, case, state);
         turns += 1;
     }
 }
 
-// Prints what was counted of random small runs: for each call, then for each kind of case.
-fn print_small(ledger: &[u64]) {
+// Tries the bench figures, and texts at the length limit.
+fn try_figures(ledger: &mut [u64]) {
+    tally::count(ledger, tally::WIDE, figures::wide_is_refused());
+    tally::count(ledger, tally::LAST, figures::last_says(16777216, 0));
+    tally::count(ledger, tally::LAST, figures::last_says(16777217, 2));
+    texts::try_long(ledger);
+}
+
+// Prints what was counted: the figures, then each call, then each kind of case.
+fn print(ledger: &[u64]) {
+    tally::print(ledger, tally::WIDE, b"window 6 with period 4 refused 6");
+    tally::print(
+        ledger,
+        tally::LAST,
+        b"last line 16777216 accepted, 16777217 refused 2",
+    );
+    tally::print(ledger, tally::LONG_TEXTS, b"texts of 4096 and 4097 bytes");
     tally::print(ledger, tally::VECTORS, b"step vectors");
-    tally::print(ledger, tally::FIRST_HIT, b"first hit from random cells");
-    tally::print(ledger, tally::LISTING, b"listing with random rooms");
-    tally::print(ledger, tally::LISTING_BLOCKS, b"listing of two blocks");
-    tally::print(ledger, tally::HIT_LEFT, b"room used up with a hit left");
-    tally::print(ledger, tally::NONE_LEFT, b"room used up with none left");
-    tally::print(ledger, tally::MAP, b"map in one call and in two blocks");
-    tally::print(ledger, tally::SAVED, b"saved maps as laid down");
-    tally::print(ledger, tally::READ, b"saved maps read back");
-    tally::print(ledger, tally::TEXTS, b"texts read back");
-    tally::print(ledger, tally::REPORTS, b"reports");
+    tally::print(ledger, tally::FIRST_HIT, b"first hits");
+    tally::print(ledger, tally::LISTING, b"listings through random rooms");
+    tally::print(
+        ledger,
+        tally::BLOCK,
+        b"first hits of a block, turned into the run's cell",
+    );
+    tally::print(ledger, tally::MAP, b"maps");
+    tally::print(ledger, tally::SAVING, b"saved maps");
+    tally::print(
+        ledger,
+        tally::READING,
+        b"files read, with up to two bytes changed",
+    );
+    tally::print(ledger, tally::TEXT, b"texts and their reports");
     tally::print(ledger, tally::PAIR, b"runs with a pair");
     tally::print(ledger, tally::SINGLE, b"runs with a single vector");
     tally::print(ledger, tally::NO_REMAINDER, b"runs with r = 0");
@@ -53,32 +114,10 @@ fn print_small(ledger: &[u64]) {
     tally::print(ledger, tally::EQUAL, b"runs with p = I");
 }
 
-// Prints what was counted of the figures and of the faults.
-fn print_faults(ledger: &[u64]) {
-    tally::print(ledger, tally::WIDE, b"window 6 with period 4 refused 6");
-    tally::print(
-        ledger,
-        tally::LAST,
-        b"last line 16777216 accepted, 16777217 refused 2",
-    );
-    tally::print(ledger, tally::VECTORS_FAULTS, b"faults of step vectors");
-    tally::print(ledger, tally::FIRST_HIT_FAULTS, b"faults of first hit");
-    tally::print(ledger, tally::LISTING_FAULTS, b"faults of listing");
-    tally::print(ledger, tally::MAP_FAULTS, b"faults of the map");
-    tally::print(ledger, tally::SAVING_FAULTS, b"faults of saving");
-    tally::print(ledger, tally::READING_FAULTS, b"faults of reading");
-    tally::print(ledger, tally::TEXT_FAULTS, b"faults of texts");
-    tally::print(ledger, tally::LONG_TEXTS, b"texts of 4096 and 4097 bytes");
-    tally::print(ledger, tally::REFUSED_REPORTS, b"reports of refusals");
-}
-
 // Tries the figures, then all random cases, and prints the counts.
 fn main() {
     let mut ledger = tally::ledger();
-    refusals::try_figures(&mut ledger);
+    try_figures(&mut ledger);
     try_all(&mut ledger);
-    texts::try_long(&mut ledger);
-    reports::try_refused(&mut ledger);
-    print_faults(&ledger);
-    print_small(&ledger);
+    print(&ledger);
 }

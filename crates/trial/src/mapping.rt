@@ -1,55 +1,33 @@
 // The map, compared with the walk over all cells.
 use crate::draw;
+use crate::draw::Case;
 use crate::numbers;
 use crate::reference;
+use crate::reference::first_of;
+use crate::reference::when;
 use map::Added;
 use scope::Run;
 
-// Adds sources to a map. Answers whether that was done.
-fn add(run: Run, periods: &[u32], weights: &[u32], map: &mut [u8]) -> bool {
-    match map::add_to_map(run, periods, weights, map) {
-        Added::Done => true,
-        Added::Refused(_) => false,
+// The number that the map call refuses with; 0 if it does not.
+fn says(reply: Added) -> u8 {
+    match reply {
+        Added::Done => 0,
+        Added::Refused(number) => number,
     }
 }
 
-// Adds sources to a part of a map, which is the map of a block; a block without lines has none.
-fn add_part(
-    block: Run,
-    periods: &[u32],
-    weights: &[u32],
-    map: &mut [u8],
-    from: usize,
-    end: usize,
-) -> bool {
-    if end <= from {
-        return true;
-    }
-    if map.len() < end {
-        return false;
-    }
-    add(block, periods, weights, &mut map[from..end])
+// The refusals of the map call, in 01's order, for a map of so many cells.
+fn judge(run: Run, periods: &[u32], weights: &[u32], cells: usize) -> u8 {
+    let lists = when(periods.len() != weights.len(), 10);
+    let later = first_of(
+        reference::judge_sources(periods, weights),
+        when(reference::cells(run) != cells, 9),
+    );
+    first_of(reference::judge_run(run), first_of(lists, later))
 }
 
-// Adds sources to the two blocks of a run that is cut at a line, to the second in two calls, the later sources first.
-fn add_blocks(run: Run, periods: &[u32], weights: &[u32], map: &mut [u8], cut: u32) -> bool {
-    let at = draw::cells_before(run, cut);
-    let all = map.len();
-    let half = periods.len() / 2;
-    if weights.len() < half {
-        return false;
-    }
-    let upper = draw::part_of(run, run.first, numbers::sub32(cut, 1));
-    let lower = draw::part_of(run, cut, run.last);
-    let above = add_part(upper, periods, weights, map, 0, at);
-    let later = add_part(lower, &periods[half..], &weights[half..], map, at, all);
-    let earlier = add_part(lower, &periods[0..half], &weights[0..half], map, at, all);
-    above && later && earlier
-}
-
-// Whether a random map is right after sources were added to it in one call, and after they were added to the run's two blocks. It
-// is then as it is expected.
-pub fn map_agrees(
+// Whether the call makes of a random map what it is to be, or refuses and leaves it.
+fn adds(
     run: Run,
     periods: &[u32],
     weights: &[u32],
@@ -57,12 +35,58 @@ pub fn map_agrees(
     expected: &mut [u8],
     state: u64,
 ) -> bool {
+    let number = judge(run, periods, weights, map.len());
     numbers::draw_bytes(map, state);
     numbers::draw_bytes(expected, state);
-    reference::expect_map(run, periods, weights, expected);
-    let cut = add_blocks(run, periods, weights, map, draw::cut_of(run, state));
-    let cut_right = numbers::same_bytes(map, expected);
-    numbers::draw_bytes(map, state);
-    let whole = add(run, periods, weights, map);
-    cut && cut_right && whole && numbers::same_bytes(map, expected)
+    reference::expect_map(number, run, periods, weights, expected);
+    let reply = map::add_to_map(run, periods, weights, map);
+    says(reply) == number && numbers::same_bytes(map, expected)
+}
+
+// The same with the first of some periods, of some weights, and room for so many cells.
+fn adds_first(
+    run: Run,
+    periods: &[u32],
+    count: usize,
+    weights: &[u32],
+    other: usize,
+    size: usize,
+    state: u64,
+) -> bool {
+    let mut map = [0u8; 1025];
+    let mut expected = [0u8; 1025];
+    if periods.len() < count {
+        return false;
+    }
+    if weights.len() < other {
+        return false;
+    }
+    if 1025 < size {
+        return false;
+    }
+    adds(
+        run,
+        &periods[0..count],
+        &weights[0..other],
+        &mut map[0..size],
+        &mut expected[0..size],
+        state,
+    )
+}
+
+// Whether the map of a case with up to five sources, with a fault here and there, is as it is to be.
+pub fn map_agrees(case: Case, state: u64) -> bool {
+    let mut periods = [0u32; 6];
+    let mut weights = [0u32; 6];
+    let count = numbers::below(state, 6) as usize;
+    draw::draw_sources(&mut periods, &mut weights, case, state, 40);
+    adds_first(
+        draw::spoilt_run(case.run, state),
+        &periods,
+        count,
+        &weights,
+        draw::length(count, 1, state >> 32) % 7,
+        draw::length(reference::cells(case.run), 1, state >> 20),
+        state,
+    )
 }

@@ -1,5 +1,5 @@
-// What 01 says of hits, of the map and of a listing, worked out for each cell by itself. Of the library only the type of a run is
-// used here, and no code.
+// What 01 says of hits, of the map and of a listing, worked out for each cell by itself, and its table of refusals. Of the library
+// only the type of a run is used here, and no code.
 use crate::numbers;
 use scope::Run;
 
@@ -39,8 +39,11 @@ fn weight_at(run: Run, periods: &[u32], weights: &[u32], cell: u64) -> u32 {
 }
 
 // Makes a map what it is to be after all sources are added: a walk over all cells. With one source of weight 1, on zeros, it marks
-// the hits.
-pub fn expect_map(run: Run, periods: &[u32], weights: &[u32], map: &mut [u8]) {
+// the hits. With a refusal the map stays as it is.
+pub fn expect_map(refusal: u8, run: Run, periods: &[u32], weights: &[u32], map: &mut [u8]) {
+    if refusal != 0 {
+        return;
+    }
     let all = map.len();
     let mut x: usize = 0;
     while x < all {
@@ -51,6 +54,12 @@ pub fn expect_map(run: Run, periods: &[u32], weights: &[u32], map: &mut [u8]) {
         numbers::put_byte(map, x, numbers::low8(numbers::least(255, sum) as u64));
         x += 1;
     }
+}
+
+// Marks the cells that a source hits. The marks are 0 before.
+pub fn mark(run: Run, period: u32, marks: &mut [u8]) {
+    let source = [period];
+    expect_map(0, run, &source, &[1], marks);
 }
 
 // How many cells of a map are above 0.
@@ -122,6 +131,53 @@ pub fn greatest_common_divisor(a: u32, b: u32) -> u32 {
 
 // How long the file of so many cells is: block 0, and a block for each 504 cells that are begun.
 pub fn file_length(cells: usize) -> usize {
-    let cells = cells % 16777216;
-    512 * (1 + (cells + 503) / 504)
+    512 * (1 + (cells % 1099511627776 + 503) / 504)
+}
+
+// A refusal, if what it is given for is so; else 0.
+pub fn when(wrong: bool, number: u8) -> u8 {
+    if wrong { number } else { 0 }
+}
+
+// The first of two refusals that is one; 0 if neither is.
+pub fn first_of(a: u8, b: u8) -> u8 {
+    if a == 0 { b } else { a }
+}
+
+// 1: window odd, below 2 or above 4,096.
+pub fn judge_window(window: u32) -> u8 {
+    when(window % 2 == 1 || window == 0 || 4096 < window, 1)
+}
+
+// 1, 2 and 3: the window, a line limit, the interval.
+pub fn judge_run(run: Run) -> u8 {
+    let lines = when(
+        run.first == 0 || run.last < run.first || 16777216 < run.last,
+        2,
+    );
+    let later = first_of(lines, when(run.interval == 0, 3));
+    first_of(judge_window(run.window), later)
+}
+
+// 4: period 0 or above 2,147,483,647.
+pub fn judge_period(period: u32) -> u8 {
+    when(period == 0 || 2147483647 < period, 4)
+}
+
+// 4 before 7, source by source.
+pub fn judge_sources(periods: &[u32], weights: &[u32]) -> u8 {
+    let all = periods.len();
+    let mut k: usize = 0;
+    while k < all {
+        let weight = numbers::number_at(weights, k);
+        let number = first_of(
+            judge_period(periods[k]),
+            when(weight == 0 || 255 < weight, 7),
+        );
+        if number != 0 {
+            return number;
+        }
+        k += 1;
+    }
+    0
 }

@@ -1,7 +1,6 @@
 // The report of the list program: every byte is compared with a report that is written from the walk over all cells.
 use crate::numbers;
 use crate::reference;
-use crate::tally;
 use crate::texts;
 use crate::texts::put_number;
 use crate::texts::put_words;
@@ -9,8 +8,7 @@ use scope::Run;
 
 // How many cells a source hits, by marks that are 0 before.
 fn count_hits(run: Run, period: u32, marks: &mut [u8]) -> u32 {
-    let source = [period];
-    reference::expect_map(run, &source, &[1], marks);
+    reference::mark(run, period, marks);
     reference::count_above(marks)
 }
 
@@ -111,45 +109,50 @@ fn reports_first(text: &[u8], end: usize, room: &[u8], length: usize) -> bool {
     reports(&text[0..end], &room[0..length])
 }
 
-// Compares the report on a run and its sources, if it is asked for. The map is of zeros before.
-pub fn try_report(
-    ledger: &mut [u64],
-    asked: bool,
+// Puts what is to be reported on a text: its refusal, or its run and sources with their map, which is of zeros before.
+fn put_answer(
+    room: &mut [u8],
+    number: u8,
     run: Run,
     periods: &[u32],
     weights: &[u32],
     map: &mut [u8],
-) {
-    let mut text = [0u8; 512];
-    let mut room = [0u8; 20000];
-    if !asked {
-        return;
+) -> usize {
+    if number != 0 {
+        let word = put_words(room, 0, b"refused");
+        let end = put_number(room, word, number as u32);
+        return put_words(room, end, b"\n");
     }
-    reference::expect_map(run, periods, weights, map);
-    let end = texts::put_text(&mut text, run, periods, weights);
-    let length = put_report(&mut room, run, periods, weights, map);
-    tally::count(
-        ledger,
-        tally::REPORTS,
-        reports_first(&text, end, &room, length),
-    );
+    reference::expect_map(0, run, periods, weights, map);
+    put_report(room, run, periods, weights, map)
 }
 
-// A refused text is reported by its number alone.
-pub fn try_refused(ledger: &mut [u64]) {
-    tally::count(
-        ledger,
-        tally::REFUSED_REPORTS,
-        reports(b"", b"refused 11\n"),
-    );
-    tally::count(
-        ledger,
-        tally::REFUSED_REPORTS,
-        reports(b"run 3 0 0 0\n", b"refused 1\n"),
-    );
-    tally::count(
-        ledger,
-        tally::REFUSED_REPORTS,
-        reports(b"run 4 10 1 5\nsrc 0 0\n", b"refused 4\n"),
-    );
+// Whether the report on a text, if it is asked for, is as it is to be. Long ones are told by the checks of the list program.
+pub fn report_agrees(
+    asked: bool,
+    text: &[u8],
+    end: usize,
+    number: u8,
+    run: Run,
+    periods: &[u32],
+    weights: &[u32],
+) -> bool {
+    let mut room = [0u8; 20000];
+    let mut map = [0u8; 1024];
+    let cells = if number == 0 {
+        reference::cells(run)
+    } else {
+        0
+    };
+    if !asked {
+        return true;
+    }
+    if 12 < periods.len() {
+        return true;
+    }
+    if 1024 < cells {
+        return true;
+    }
+    let length = put_answer(&mut room, number, run, periods, weights, &mut map[0..cells]);
+    reports_first(text, end, &room, length)
 }

@@ -1,6 +1,10 @@
 // The step vectors, held against the conditions of 01.
+use crate::draw;
+use crate::draw::Case;
 use crate::numbers;
 use crate::reference;
+use crate::reference::first_of;
+use crate::reference::when;
 use signed::size;
 use vectors::Steps;
 use vectors::Vector;
@@ -62,14 +66,35 @@ fn is_single(period: u32, remainder: u32, window: u32, only: Vector) -> bool {
             == 1
 }
 
-// Whether the step vectors are as 01 says, or refused with this number if it is not 0. A pair that meets its conditions is the
-// only one, and there is none where the common divisor is at least the window.
-pub fn vectors_agree(period: u32, remainder: u32, window: u32, expected: u8) -> bool {
+// The refusals of the vectors call, in 01's order.
+fn judge(period: u32, remainder: u32, window: u32) -> u8 {
+    let later = first_of(when(period <= remainder, 5), when(period < window, 6));
+    first_of(
+        reference::judge_window(window),
+        first_of(reference::judge_period(period), later),
+    )
+}
+
+// Whether the step vectors are as 01 says. A pair that meets its conditions is the only one, and there is none where the common
+// divisor is at least the window.
+pub fn compare(period: u32, remainder: u32, window: u32) -> bool {
+    let number = judge(period, remainder, window);
     match vectors::step_vectors(period, remainder, window) {
-        Steps::Pair(left, right) => {
-            expected == 0 && is_pair(period, remainder, window, left, right)
-        }
-        Steps::Single(only) => expected == 0 && is_single(period, remainder, window, only),
-        Steps::Refused(number) => expected != 0 && number == expected,
+        Steps::Pair(left, right) => number == 0 && is_pair(period, remainder, window, left, right),
+        Steps::Single(only) => number == 0 && is_single(period, remainder, window, only),
+        Steps::Refused(said) => number != 0 && said == number,
     }
+}
+
+// The same of a random case, with a fault here and there.
+pub fn vectors_agree(case: Case, state: u64) -> bool {
+    let b = numbers::next(state);
+    let window = draw::maybe(case.run.window, state, 8);
+    let period = draw::maybe(case.period, b, 8);
+    let remainder = numbers::rest(case.run.interval as u64, period as u64);
+    compare(
+        period,
+        draw::maybe(numbers::low32(remainder), numbers::next(b), 8),
+        window,
+    )
 }

@@ -3,59 +3,37 @@
 use crate::numbers;
 
 // The lines.
-pub const FIRST_HIT: usize = 0;
+pub const VECTORS: usize = 0;
 
-pub const LISTING: usize = 1;
+pub const FIRST_HIT: usize = 1;
 
-pub const LISTING_BLOCKS: usize = 2;
+pub const LISTING: usize = 2;
 
-pub const HIT_LEFT: usize = 3;
+pub const BLOCK: usize = 3;
 
-pub const NONE_LEFT: usize = 4;
+pub const MAP: usize = 4;
 
-pub const MAP: usize = 5;
+pub const SAVING: usize = 5;
 
-pub const VECTORS: usize = 6;
+pub const READING: usize = 6;
 
-pub const PAIR: usize = 7;
+pub const TEXT: usize = 7;
 
-pub const SINGLE: usize = 8;
+pub const PAIR: usize = 8;
 
-pub const NO_REMAINDER: usize = 9;
+pub const SINGLE: usize = 9;
 
-pub const SHORT: usize = 10;
+pub const NO_REMAINDER: usize = 10;
 
-pub const EQUAL: usize = 11;
+pub const SHORT: usize = 11;
 
-pub const WIDE: usize = 12;
+pub const EQUAL: usize = 12;
 
-pub const LAST: usize = 13;
+pub const WIDE: usize = 13;
 
-pub const VECTORS_FAULTS: usize = 14;
+pub const LAST: usize = 14;
 
-pub const FIRST_HIT_FAULTS: usize = 15;
-
-pub const LISTING_FAULTS: usize = 16;
-
-pub const MAP_FAULTS: usize = 17;
-
-pub const SAVING_FAULTS: usize = 18;
-
-pub const SAVED: usize = 19;
-
-pub const READ: usize = 20;
-
-pub const READING_FAULTS: usize = 21;
-
-pub const TEXTS: usize = 22;
-
-pub const TEXT_FAULTS: usize = 23;
-
-pub const LONG_TEXTS: usize = 24;
-
-pub const REPORTS: usize = 25;
-
-pub const REFUSED_REPORTS: usize = 26;
+pub const LONG_TEXTS: usize = 15;
 
 // A list of counts, all 0.
 pub fn ledger() -> [u64; 64] {

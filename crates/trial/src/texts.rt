@@ -1,11 +1,11 @@
-// Texts: what is written from a run and its sources is read as just that; with two faults at once put into it, the first refusal
-// in 01's order is given.
+// Texts, written from a run and its sources, and read as just that, or refused.
 use crate::draw;
 use crate::draw::Case;
-use crate::faults;
-use crate::faults::has;
-use crate::faults::when;
 use crate::numbers;
+use crate::reference;
+use crate::reference::first_of;
+use crate::reference::when;
+use crate::reports;
 use crate::tally;
 use scope::Run;
 use text::Answer;
@@ -94,48 +94,18 @@ fn number_of(answer: Answer) -> u8 {
     }
 }
 
-// The faults of a text, after those of the run.
-const FORM: u64 = 8;
-
-const SOURCES: u64 = 16;
-
-const CELLS: u64 = 32;
-
-const PERIOD: u64 = 64;
-
-const WEIGHT: u64 = 128;
-
-// A run that has 65,536 cells, or more where that is a fault; or the run as it was.
-fn sized_run(run: Run, faults: u64, state: u64) -> Run {
-    let large = has(faults, CELLS);
-    let interval = run.interval;
-    let more = if large { 1 } else { 0 };
-    match state % 8 {
-        0 => Run {
-            window: 2,
-            interval,
-            first: 1,
-            last: numbers::add32(32768, more),
-        },
-        1 => Run {
-            window: 4096,
-            interval,
-            first: numbers::sub32(16777201, more),
-            last: 16777216,
-        },
-        _ => Run {
-            window: if large { 4 } else { run.window },
-            interval,
-            first: run.first,
-            last: if large { 17000 } else { run.last },
-        },
+// Whether the first bytes of a room, a text of this length, are read as is expected.
+fn reads_first(room: &[u8], length: usize, number: u8) -> bool {
+    if room.len() < length {
+        return false;
     }
+    reads(&room[0..length], number)
 }
 
-// Puts in the place of a text's end what makes it malformed, and answers the new end.
+// Puts in the place of a text's end what makes it malformed, one time in eight, and answers the new end.
 fn spoil_end(room: &mut [u8], end: usize, state: u64) -> usize {
     let last = std::num::wrapping_sub_usize(end, 1);
-    match state % 10 {
+    match state % 80 {
         0 => last,
         1 => put_words(room, end, b"\n"),
         2 => put_words(room, last, b" \n"),
@@ -145,127 +115,91 @@ fn spoil_end(room: &mut [u8], end: usize, state: u64) -> usize {
         6 => put_words(room, end, b"src 01 1\n"),
         7 => put_words(room, end, b"src  1 1\n"),
         8 => put_words(room, end, b"src 1 1"),
-        _ => put_words(room, end, b"src 4294967296 1\n"),
+        9 => put_words(room, end, b"src 4294967296 1\n"),
+        _ => end,
     }
 }
 
-// How many sources a text has: 65, or up to 64.
-fn count_of(faults: u64, state: u64) -> usize {
-    if has(faults, SOURCES) {
-        return 65;
-    }
-    if state % 4 == 0 {
-        64
-    } else {
-        1 + state as usize % 12
-    }
-}
-
-// Whether the first bytes of a room, a text of this length, are read as is expected.
-fn reads_first(room: &[u8], length: usize, number: u8) -> bool {
-    if room.len() < length {
-        return false;
-    }
-    reads(&room[0..length], number)
-}
-
-// Writes a text, with its end spoilt if that is a fault, and answers the new end.
-fn put_spoilt(
-    room: &mut [u8],
-    run: Run,
-    periods: &[u32],
-    weights: &[u32],
-    fault: bool,
-    state: u64,
-) -> usize {
-    let end = put_text(room, run, periods, weights);
-    if !fault {
-        return end;
-    }
-    spoil_end(room, end, state)
-}
-
-// Draws sources, with a period and a weight at fault where these are faults. Answers the first refusal of these; 0 if there is none.
-fn draw_spoilt(
-    periods: &mut [u32],
-    weights: &mut [u32],
-    case: Case,
-    faults: u64,
-    state: u64,
-) -> u8 {
-    draw::draw_sources(periods, weights, case, state);
-    faults::spoil_sources(
-        periods,
-        weights,
-        has(faults, PERIOD),
-        has(faults, WEIGHT),
-        state,
+// The refusals of a text, in 01's order, given whether it is malformed.
+fn judge(malformed: bool, run: Run, periods: &[u32], weights: &[u32]) -> u8 {
+    let many = when(64 < periods.len() || 65536 < reference::cells(run), 12);
+    let later = first_of(many, reference::judge_sources(periods, weights));
+    first_of(
+        when(malformed, 11),
+        first_of(reference::judge_run(run), later),
     )
 }
 
-// The first refusal of a set of faults, given that of the sources; 0 if there is none.
-fn refusal(faults: u64, source: u8) -> u8 {
-    let many = when(has(faults, SOURCES) || has(faults, CELLS), 12);
-    let later = faults::first_of(faults::run_refusal(faults), many, source);
-    faults::first_of(when(has(faults, FORM), 11), later, 0)
-}
-
-// Whether the text of a run and its sources is read as is expected, its end spoilt if that is a fault.
-fn text_agrees(
-    run: Run,
-    periods: &[u32],
-    weights: &[u32],
-    fault: bool,
-    state: u64,
-    number: u8,
-) -> bool {
+// Whether the text of a run and its sources, malformed now and then, is read as it is to be; and whether every fourth
+// is reported so.
+fn text_is(run: Run, periods: &[u32], weights: &[u32], state: u64) -> bool {
     let mut room = [0u8; 4200];
-    let end = put_spoilt(&mut room, run, periods, weights, fault, state);
-    reads_first(&room, end, number)
+    let right = put_text(&mut room, run, periods, weights);
+    let end = spoil_end(&mut room, right, state);
+    let number = judge(end != right, run, periods, weights);
+    let asked = state % 4 == 0;
+    let reported = reports::report_agrees(asked, &room, end, number, run, periods, weights);
+    reported && reads_first(&room, end, number)
 }
 
-// Tries the text of a case, with as many sources as there is room for, and with these faults.
-fn try_faults(
-    ledger: &mut [u64],
+// The same with sources that are drawn.
+fn text_of(
     case: Case,
+    run: Run,
     periods: &mut [u32],
     weights: &mut [u32],
-    faults: u64,
+    seldom: u32,
     state: u64,
-) {
-    let number = refusal(faults, draw_spoilt(periods, weights, case, faults, state));
-    let sized = sized_run(case.run, faults, state >> 40);
-    let run = faults::spoil_run(sized, faults, state >> 8);
-    let form = has(faults, FORM);
-    let fine = text_agrees(run, periods, weights, form, state >> 50, number);
-    tally::count(
-        ledger,
-        if number == 0 {
-            tally::TEXTS
-        } else {
-            tally::TEXT_FAULTS
-        },
-        fine,
-    );
+) -> bool {
+    draw::draw_sources(periods, weights, case, state, seldom);
+    text_is(run, periods, weights, state >> 32)
 }
 
-// The same with as many sources as the faults ask for, and two faults at once.
-pub fn try_text(ledger: &mut [u64], case: Case, state: u64) {
+// A run of 65,536 cells or just more, or as it was.
+fn sized_run(run: Run, state: u64) -> Run {
+    let more = numbers::low32(state >> 4) % 2;
+    let last = match state % 16 {
+        0 => numbers::add32(32768, more),
+        1 => numbers::add32(16, more),
+        _ => run.last,
+    };
+    Run {
+        window: match state % 16 {
+            0 => 2,
+            1 => 4096,
+            _ => run.window,
+        },
+        interval: run.interval,
+        first: if state % 16 < 2 { 1 } else { run.first },
+        last,
+    }
+}
+
+// How many sources a text has: now and then 64 or 65.
+fn count_of(state: u64) -> usize {
+    match state % 16 {
+        0 => 64,
+        1 => 65,
+        _ => state as usize % 13,
+    }
+}
+
+// Whether the text of a case, with a fault here and there, is read and reported as it is to be.
+pub fn text_agrees(case: Case, state: u64) -> bool {
     let mut periods = [0u32; 65];
     let mut weights = [0u32; 65];
-    let faults = faults::two(numbers::next(state), 9);
-    let count = count_of(faults, state >> 3);
+    let count = count_of(state >> 3);
     if 65 < count {
-        return;
+        return false;
     }
-    try_faults(
-        ledger,
+    text_of(
         case,
+        draw::spoilt_run(sized_run(case.run, state >> 12), state >> 1),
         &mut periods[0..count],
         &mut weights[0..count],
-        faults,
+        if count < 13 { 60 } else { 500 },
         state,
-    );
+    )
 }
 
 // A text of 4,096 bytes is read, and refused 12 for its sources; one of 4,097 bytes is refused 11.

@@ -6,8 +6,17 @@ use scope::Verdict;
 // The number of no cell: something was wrong.
 pub const WRONG: u64 = 18446744073709551615;
 
-// The run's number of a cell that a call with a block as its run has named, the block being the run's lines from one on. If there
-// is no such cell, the number of none.
+// The block that is a run's lines from one on.
+pub fn block_of(run: Run, first: u32) -> Run {
+    Run {
+        window: run.window,
+        interval: run.interval,
+        first,
+        last: run.last,
+    }
+}
+
+// The run's number of a cell that a call with such a block as its run has named. If there is no such cell, the number of none.
 pub fn in_run(run: Run, first: u32, cell: RunCell) -> RunCell {
     let block = Run {
         window: run.window,

@@ -21,7 +21,7 @@ use Rattle.words.specs.declared.Found.{Found}
 use Rattle.words.specs.declared.Found.the-variants.{Next, Refused}
 
 -- what follows a common front
-pub behind : (front : List ℕ) {a b : List ℕ} → front ++ a ≡ front ++ b → a ≡ b
+behind : (front : List ℕ) {a b : List ℕ} → front ++ a ≡ front ++ b → a ≡ b
 behind front {a} {b} e = sym (drop-append-seam front a) ∙ ap (drop (length front)) e ∙ drop-append-seam front b
 
 module _ {text : List ℕ} {at : ℕ} where
@@ -34,7 +34,7 @@ module _ {text : List ℕ} {at : ℕ} where
         record { is = s .is ∙ rw (t .is) (sym (append-assoc bytes more _)); ends = t .ends ∙ omega (arith, s .ends, length-append bytes more) }
 
     -- the text goes on after the bytes as it has to
-    pub spelled-forced : {rest : List ℕ} → drop at text ≡ bytes ++ rest → drop next text ≡ rest
+    spelled-forced : {rest : List ℕ} → drop at text ≡ bytes ++ rest → drop next text ≡ rest
     spelled-forced e = behind bytes (sym (s .is) ∙ e)
 
     -- they end within the text
@@ -111,7 +111,7 @@ pub record NoFields (text : List ℕ) (at count : ℕ) : Type 0 where
   pub none : (numbers rest : List ℕ) → length numbers ≡ count → UpTo largest numbers → drop at text ≡ fields numbers ++ rest → ⊥
 
 -- what follows a number begins with no digit
-pub fields-begin : (numbers rest : List ℕ) → beginsWithDigit (fields numbers ++ rest) ≡ false
+fields-begin : (numbers rest : List ℕ) → beginsWithDigit (fields numbers ++ rest) ≡ false
 unfolding fields
 fields-begin [] rest = refl
 fields-begin (n ∷ numbers) rest = refl
@@ -121,7 +121,7 @@ unfolding fields
 fields-cons v numbers rest = append-assoc (32 ∷ digits v) (fields numbers) rest
 
 -- numbers can be read in one way only, whatever follows
-pub fields-split : (ms ns r s : List ℕ) → fields ms ++ r ≡ fields ns ++ s → (ms ≡ ns) × (r ≡ s)
+fields-split : (ms ns r s : List ℕ) → fields ms ++ r ≡ fields ns ++ s → (ms ≡ ns) × (r ≡ s)
 unfolding fields
 fields-split [] [] r s e = (refl, behind (10 ∷ []) e)
 fields-split [] (n ∷ ns) r s e = let z : _≡_ {A = ℕ} 10 32 = ap (λ l. getD l 0 0) e in absurd (omega arith)
@@ -145,7 +145,7 @@ module _ {text : List ℕ} {at v next : ℕ} (f : Field text at v next) where
   field-joins {numbers} g = record { small = up-to-cons v numbers (f .small) (g .small); stands = spelled-append (f .stands) (g .stands) }
 
   -- the number that stands there is the only one, and the text goes on as it has to
-  pub field-forced : (w : ℕ) (numbers rest : List ℕ) → drop at text ≡ fields (w ∷ numbers) ++ rest
+  field-forced : (w : ℕ) (numbers rest : List ℕ) → drop at text ≡ fields (w ∷ numbers) ++ rest
       → (v ≡ w) × (drop next text ≡ fields numbers ++ rest)
   field-forced w numbers rest e =
       digits-split v w (drop next text) (fields numbers ++ rest) (f .ended) (fields-begin numbers rest)

@@ -2,9 +2,9 @@
 use Prim.Native.Nat.{ℕ, suc, _+_, _*_, _≤_, _<_}
 use native.Mathlib.Omega.{arith}
 use native.Mathlib.Numerals.{add-one}
-use mathlib.Core.Path.{_≡_, refl, sym, ap, _∙_, subst}
-use mathlib.Core.List.{List, [], _∷_, _++_, append-assoc, append-nil}
-use lib.ListN.{length, drop, getD, set, length-append, drop-of-length-le}
+use mathlib.Core.Path.{_≡_, refl}
+use mathlib.Core.List.{List, [], _∷_, _++_}
+use lib.ListN.{length, drop, getD, length-append, drop-of-length-le}
 use lib.Seq.{drop-cons}
 use Rattle.rooms.specs.Lists.{UpTo}
 use Rattle.decimal.specs.Digits.{largest, digits}
@@ -63,12 +63,12 @@ module _ (room : List ℕ) (at : ℕ) (word numbers : List ℕ) (fits : at + len
   unfolding line
   word-written {next} {after} w =
       let l = length-append word (fields numbers) in
-      record { writing = writing-starts after next (fields numbers) (omega (arith, w .ends, written-length w (omega (arith, w .ends)))) }
+      record { writing = writing-starts after next (fields numbers) (omega (arith, w .ends, written-length w)) }
 
   pub line-written : {next : ℕ} {after : List ℕ} {end : ℕ} {last : List ℕ} → Written room at word next after → Written after next (fields numbers) end last
       → Written room at (line word numbers) end last
   unfolding line
-  line-written w v = written-append w (omega arith) v
+  line-written w v = written-append w v
 
 -- ---- how long a line is
 

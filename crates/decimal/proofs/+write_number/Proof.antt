@@ -54,7 +54,7 @@ module _ (t : ℕ) where
       let fits = c .before .before .before .before .before .before .before .before .before .before .pre .1 in
       let first = c .before .before .before .before .before .before .write-number .ensures in
       rw (digits-more n (c .before .before .before .before .before .before .before .before .if1 .left))
-      (written-append first (omega arith) (c .before .before .write-digit2 .ensures))
+      (written-append first (c .before .before .write-digit2 .ensures))
 
 pub +write-number-spec : {M : Type 1} → statement M
 +write-number-spec =

@@ -1,9 +1,22 @@
 -- `fileblocks::put_four` meets its contract: four stores fill a room of four. Assumes nothing.
+use Prim.Native.Nat.{ℕ}
+use mathlib.Core.Path.{_≡_, refl}
+use mathlib.Core.List.{List, [], _∷_}
+use native.Mathlib.Omega.{arith}
+use lib.ListN.{length, set}
 use borrow.Author.Needs.{needs}
 use Rattle.fileblocks.specs.FileBlock.{four}
-use Rattle.fileblocks.proofs.Front.{four-stores}
 use Rattle.fileblocks.proofs.put_four.Statement.{statement}
 use Rattle.fileblocks.proofs.put_four.Tie as tie
+
+-- four stores fill a room of four
+four-stores : {a b c d : ℕ} (l : List ℕ) → length l ≡ 4 → set (set (set (set l 0 a) 1 b) 2 c) 3 d ≡ a ∷ b ∷ c ∷ d ∷ []
+four-stores (v ∷ w ∷ x ∷ y ∷ []) e = refl
+four-stores [] e = absurd (omega arith)
+four-stores (v ∷ []) e = absurd (omega arith)
+four-stores (v ∷ w ∷ []) e = absurd (omega arith)
+four-stores (v ∷ w ∷ x ∷ []) e = absurd (omega arith)
+four-stores (v ∷ w ∷ x ∷ y ∷ z ∷ l) e = absurd (omega arith)
 
 cast-room : tie.Need-cast-room
 cast-room c = search needs

@@ -27,18 +27,18 @@ use Rattle.hits.proofs.write_hits.Statement.{statement}
 use Rattle.hits.proofs.write_hits.Tie as tie
 
 abbrev Inv-loop : tie.InvT-loop
-Inv-loop room₀ all window period end walk cell₀ offset next₀ n₀ to past₀ room cell next n past =
+Inv-loop room₀ all cell₀ window period end walk offset next₀ n₀ to past₀ room cell next n past =
     (next ≡ next₀) × ((run : Run) (source : Source) (start : ℕ) (before : List ℕ) (at : LineHit) → Fixed run source all period end walk → Inside run source start before room₀ n₀ cell₀ past₀ at → Inside run source start before room n cell past at)
 
 abbrev μ-loop : tie.MeasureT-loop
-μ-loop room₀ all window period end walk cell₀ offset next₀ n₀ to past₀ room cell next n past = all - cell
+μ-loop room₀ all cell₀ window period end walk offset next₀ n₀ to past₀ room cell next n past = all - cell
 
 abbrev Inv-lines : tie.InvT-lines
-Inv-lines room₀ all window period end walk cell₀ offset₀ at₀ next₀ n₀ room cell offset at next n =
+Inv-lines room₀ all cell₀ window period end walk offset₀ at₀ next₀ n₀ room cell offset at next n =
     (next ≡ next₀) × ((run : Run) (source : Source) (start : ℕ) → Fixed run source all period end walk → Head run source start room₀ room₀ n₀ cell₀ offset₀ at₀ → Head run source start room₀ room n cell offset at)
 
 abbrev μ-lines : tie.MeasureT-lines
-μ-lines room₀ all window period end walk cell₀ offset₀ at₀ next₀ n₀ room cell offset at next n = all - cell
+μ-lines room₀ all cell₀ window period end walk offset₀ at₀ next₀ n₀ room cell offset at next n = all - cell
 
 -- ---- what is known at the loops
 
@@ -47,10 +47,10 @@ room-small c = c .good .1 .1 .1 .0 .1
 
 -- what was asked, and the first hit, seen from the loops
 abbrev found : (c : tie.After-line-hit-of Inv-loop μ-loop Inv-lines μ-lines) → tie.After-find-hit Inv-loop μ-loop Inv-lines μ-lines
-found c = c .before .before .before .before .before .before
+found c = c .before .before .before .before .before
 
 abbrev asked : (c : tie.After-line-hit-of Inv-loop μ-loop Inv-lines μ-lines) → tie.Start Inv-loop μ-loop Inv-lines μ-lines
-asked c = c .before .before .before .before .before .before .before .before .before
+asked c = c .before .before .before .before .before .before .before .before
 
 fixed : (c : tie.After-line-hit-of Inv-loop μ-loop Inv-lines μ-lines) → let a = asked c .args in Fixed (a .run) (a .source) (found c .before .cells .result) (a .source .period) (ofZ w64 (c .before .before .before .offset-at .result)) (c .before .before .plan .result)
 fixed c =
@@ -122,26 +122,26 @@ find-hit-requires : tie.Need-find-hit-requires Inv-loop μ-loop Inv-lines μ-lin
 find-hit-requires c κs = c .before .before .pre
 
 returns : tie.Need-returns Inv-loop μ-loop Inv-lines μ-lines
-returns c = let f = c .before .before in kept-done (omega (arith, c .if1 .taken, f .before .cells .ensures)) (kept-start (f .find-hit .ensures))
+returns c = let f = c .before in kept-done (omega (arith, c .if1 .taken, f .before .cells .ensures)) (kept-start (f .find-hit .ensures))
 
 cast-offset-at : tie.Need-cast-offset-at Inv-loop μ-loop Inv-lines μ-lines
 cast-offset-at c = search needs
 
 offset-at-requires : tie.Need-offset-at-requires Inv-loop μ-loop Inv-lines μ-lines
-offset-at-requires c κs = let w = c .before .before .before .before .before .pre .0 .wide in (w, w)
+offset-at-requires c κs = let w = c .before .before .before .before .pre .0 .wide in (w, w)
 
 plan-requires : tie.Need-plan-requires Inv-loop μ-loop Inv-lines μ-lines
-plan-requires c κs = let s = c .before .before .before .before .before .before in (s .pre .0, s .pre .1)
+plan-requires c κs = let s = c .before .before .before .before .before in (s .pre .0, s .pre .1)
 
 cast-offset-at-2 : tie.Need-cast-offset-at-2 Inv-loop μ-loop Inv-lines μ-lines
 cast-offset-at-2 c = search needs
 
 rem-offset-at : tie.Need-rem-offset-at Inv-loop μ-loop Inv-lines μ-lines
-rem-offset-at c = let h = c .before .before .before .before .before .before .before .pre .0 .narrow in omega arith
+rem-offset-at c = let h = c .before .before .before .before .before .before .pre .0 .narrow in omega arith
 
 offset-at-requires-2 : tie.Need-offset-at-requires-2 Inv-loop μ-loop Inv-lines μ-lines
 offset-at-requires-2 c κs =
-    let f = c .before .before .before .before in
+    let f = c .before .before .before in
     let s = f .before .before .before in
     let w = s .pre .0 .wide in
     let some = s .pre .0 .narrow in
@@ -149,7 +149,7 @@ offset-at-requires-2 c κs =
 
 line-hit-of-requires : tie.Need-line-hit-of-requires Inv-loop μ-loop Inv-lines μ-lines
 line-hit-of-requires c κs =
-    let f = c .before .before .before .before .before in
+    let f = c .before .before .before .before in
     let s = f .before .before .before in
     (s .pre .0, s .pre .1, f .find-hit .ensures .to)
 

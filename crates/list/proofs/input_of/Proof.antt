@@ -10,7 +10,7 @@ use mir.Syntax.{w64}
 use mir.Val.{hbits, toZ, ofZ}
 use mir.Facts.{toZ-ofZ}
 use Rattle.list.specs.declared.Input.the-variants.{Text, Failed}
-use Rattle.list.specs.Reading.{inputOf, inputFrom}
+use Rattle.list.specs.Inner.{inputOf, inputFrom}
 use Rattle.list.proofs.input_of.Statement.{statement}
 use Rattle.list.proofs.input_of.Tie as tie
 

@@ -14,7 +14,8 @@ use Rattle.rooms.proofs.Lists.{length-zeros}
 use Rattle.report.proofs.Unique.{output-within, output-prints}
 use Rattle.list.specs.declared.Reading.{Reading}
 use Rattle.list.specs.declared.Input.the-variants.{Text}
-use Rattle.list.specs.Reading.{Stopped, inputFrom, inputOf, Whole}
+use Rattle.list.specs.Reading.{Whole}
+use Rattle.list.specs.Inner.{Stopped, inputFrom, inputOf}
 use Rattle.list.proofs.main.Statement.{statement}
 use Rattle.list.proofs.main.Tie as tie
 
@@ -32,7 +33,7 @@ telling : {room : ℕ} {reading : Reading} {count : ℕ} → Stopped room readin
 unfolding inputOf
 telling {room} {reading} {count} stopped e = told room (reading .count) count (reading .last) (stopped .why) e
 
--- the same of the places after the text is taken out of its enum
+-- the same, after the text is taken out of its enum
 read-as : (c : tie.After-known-told) → Told (length (c .before .before .before .before .before .read-input .last .0)) (c .before .before .before .before .before .read-input .result .count) (c .before .count .given .0 .0) (c .before .before .before .before .before .read-input .result .last)
 read-as c =
     telling (c .before .before .before .before .before .read-input .ensures)

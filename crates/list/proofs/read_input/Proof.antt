@@ -1,6 +1,6 @@
 -- `list::read_input` meets its contract. The loop's invariant: the bytes read lie within the room, whose length stays. The measure is
 -- what is left of the room. Assumes nothing.
-use Prim.Native.Nat.{ℕ, _+_, _≤_, _<_, _-_}
+use Prim.Native.Nat.{ℕ, _+_, _≤_, _-_}
 use mathlib.Core.Path.{_≡_, _∙_, sym}
 use mathlib.Core.List.{List}
 use lib.ListN.{length}
@@ -13,7 +13,6 @@ use borrow.Author.Needs.{needs}
 use borrow.Rule.Slice.PartMut.{midOf, putMid, mid-len, same-len-mid}
 use Rattle.libc.specs.Io.{Moved}
 use Rattle.io.specs.Counts.{clamped}
-use Rattle.list.specs.Reading.{Stopped}
 use Rattle.list.proofs.read_input.Statement.{statement}
 use Rattle.list.proofs.read_input.Tie as tie
 

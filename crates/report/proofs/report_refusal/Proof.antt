@@ -1,14 +1,11 @@
 -- `report::report_refusal` meets its contract. Assumes nothing.
 use native.Mathlib.Omega.{arith}
-use mathlib.Core.Path.{ap}
+use mathlib.Core.Path.{refl, ap}
 use mathlib.Core.List.{[], _∷_}
-use lib.ListN.{length}
 use Rattle.words.specs.Line.{line}
 use Rattle.report.specs.Report.{refusedWord}
 use Rattle.rooms.proofs.Writing.{written-same}
-use Rattle.rooms.proofs.Lists.{length-zeros, up-to}
-use Rattle.words.proofs.Writing.{line-long}
-use Rattle.report.proofs.Outputs.{prints}
+use Rattle.report.proofs.Outputs.{refusal-fits, prints}
 use borrow.Author.Needs.{needs}
 use Rattle.report.proofs.report_refusal.Statement.{statement}
 use Rattle.report.proofs.report_refusal.Tie as tie
@@ -32,12 +29,7 @@ write-line-requires : tie.Need-write-line-requires
 write-line-requires c κs =
     let told = c .before .before .before in
     let small = told .before .before .fits in
-    omega (
-      arith,
-      line-long refusedWord (told .wide .result ∷ []) (up-to (told .wide .result ∷ []) (omega (arith, told .wide .ensures), tt)),
-      ap length (told .before .blank .ensures),
-      length-zeros 921600,
-    )
+    refusal-fits _ (told .wide .result) refl (omega (arith, told .wide .ensures)) (told .before .blank .ensures)
 
 returns : tie.Need-returns
 returns c =

@@ -1,6 +1,7 @@
 -- `report::write_cell` meets its contract: a cell of 0 has no line, any other has one. Assumes nothing.
 use mathlib.Core.Path.{_≡_, sym, ap, _∙_, subst}
 use Prim.Native.Nat.{_+_, _≤_}
+use native.Mathlib.Omega.{arith}
 use lib.ListN.{length}
 use mathlib.Core.List.{[], _∷_}
 use Rattle.words.specs.Line.{line}
@@ -21,7 +22,9 @@ printed c =
     ap (λ v. line mapWord (a .cell .0 ∷ v ∷ [])) (c .wide .ensures) ∙ sym (cell-line (a .cell .0) (a .value) (c .before .if1 .left))
 
 returns : tie.Need-returns
-returns c = rw (cell-none (c .before .before .args .cell .0) (c .before .before .args .value) (c .if1 .taken)) (written-none _ _)
+returns c =
+    let none = cell-none (c .before .before .args .cell .0) (c .before .before .args .value) (c .if1 .taken) in
+    rw none (written-none _ _ (omega (arith, c .before .before .pre)))
 
 wide-requires : tie.Need-wide-requires
 wide-requires c κs = search needs

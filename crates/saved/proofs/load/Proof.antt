@@ -26,11 +26,11 @@ mul-loop c = omega arith
 mul-from : tie.Need-mul-from Inv-loop μ-loop
 mul-from c = omega arith
 
-add-least : tie.Need-add-least Inv-loop μ-loop
-add-least c = omega arith
+add-smaller : tie.Need-add-smaller Inv-loop μ-loop
+add-smaller c = omega arith
 
-least-requires : tie.Need-least-requires Inv-loop μ-loop
-least-requires c κs = search needs
+smaller-requires : tie.Need-smaller-requires Inv-loop μ-loop
+smaller-requires c κs = search needs
 
 add-at : tie.Need-add-at Inv-loop μ-loop
 add-at c = omega arith
@@ -68,7 +68,7 @@ part-copy-end-2 c = omega arith
 copy-requires : tie.Need-copy-requires Inv-loop μ-loop
 copy-requires c κs =
     let turn = c .before .before in
-    read-part (turn .before .before .loop .inv) (turn .before .loop-test .taken) (turn .least .ensures)
+    read-part (turn .before .before .loop .inv) (turn .before .loop-test .taken) (turn .smaller .ensures)
 
 add-k : tie.Need-add-k Inv-loop μ-loop
 add-k c = omega arith
@@ -79,7 +79,7 @@ loop-less c = omega arith
 loop-again : tie.Need-loop-again Inv-loop μ-loop
 loop-again c =
     let turn = c .before .before .before .before .before in
-    read-more (turn .before .before .loop .inv) (turn .before .loop-test .taken) (turn .least .ensures) (c .before .before .copy .ensures)
+    read-more (turn .before .before .loop .inv) (turn .before .loop-test .taken) (turn .smaller .ensures) (c .before .before .copy .ensures)
 
 same-length : tie.Need-same-length Inv-loop μ-loop
 same-length c = c .before .loop .inv .same
@@ -96,8 +96,8 @@ load-spec =
     loop-holds
     mul-loop
     mul-from
-    add-least
-    least-requires
+    add-smaller
+    smaller-requires
     add-at
     mul-at
     add-at-2

@@ -15,7 +15,8 @@ use Rattle.scope.proofs.Limits.{valid-run, cells-few}
 use Rattle.fileblocks.specs.FileBlock.{fileBlockBytes, fileBlockOf}
 use Rattle.saved.specs.File.{heading, laterFileBlocks, fileBlocksFor, fileLength, bytesFor, fileOf, savingTests}
 use Rattle.saved.specs.Inner.{manyBytes}
-use Rattle.fileblocks.proofs.Front.{Front, front-none, front-part, front-length, front-all}
+use Rattle.rooms.specs.InnerRooms.{Written}
+use Rattle.rooms.proofs.Written.{written-none, written-part, written-length, written-all}
 use Rattle.fileblocks.proofs.FileBlock.{length-fileBlockOf}
 use Rattle.saved.proofs.Cells.{cell-bytes, length-laterFileBlocks}
 use Rattle.scope.proofs.Differs.{differs, agrees}
@@ -46,14 +47,14 @@ admitted c =
 
 module _ {run : Run} {map file part : List ℕ} (s : Admitted run map file) (head : part ≡ fileBlockOf 0 (heading run)) where
   -- block 0 is written
-  headed : Front file (putMid 0 fileBlockBytes file part) part fileBlockBytes
+  headed : Written file 0 part fileBlockBytes (putMid 0 fileBlockBytes file part)
   unfolding fileLength
-  headed = let l = s .long in front-part fileBlockBytes part (front-none file) (omega arith) (omega arith) (ap length head ∙ length-fileBlockOf 0 (heading run))
+  headed = let l = s .long in written-part (written-none file 0 (omega arith)) fileBlockBytes part (omega arith) (omega arith) (ap length head ∙ length-fileBlockOf 0 (heading run))
 
   -- the rest of the room is for the cells
   rest-length : length (midOf fileBlockBytes (length file - fileBlockBytes) (putMid 0 fileBlockBytes file part)) ≡ fileBlockBytes * fileBlocksFor (length map)
   unfolding fileLength
-  rest-length = let w = front-length headed in let l = s .long in mid-len fileBlockBytes (length file) (putMid 0 fileBlockBytes file part) (omega arith) ∙ omega arith
+  rest-length = let w = written-length headed in let l = s .long in mid-len fileBlockBytes (length file) (putMid 0 fileBlockBytes file part) (omega arith) ∙ omega arith
 
   -- the whole room is written
   whole : {rest : List ℕ} → rest ≡ laterFileBlocks map (fileBlocksFor (length map)) → putMid fileBlockBytes (length file - fileBlockBytes) (putMid 0 fileBlockBytes file part) rest ≡ fileOf run map
@@ -61,7 +62,7 @@ module _ {run : Run} {map file part : List ℕ} (s : Admitted run map file) (hea
   whole {rest} f =
       let l = s .long in
       let many : length rest ≡ length file - fileBlockBytes = ap length f ∙ length-laterFileBlocks map (fileBlocksFor (length map)) ∙ omega arith in
-      front-all (front-part (length file) rest headed (omega arith) (le-refl (length file)) many) refl ∙ rw (head, f, s .cells)
+      written-all (written-part headed (length file) rest (omega arith) (le-refl (length file)) many) refl ∙ rw (head, f, s .cells)
 
 judge-run-requires : tie.Need-judge-run-requires
 judge-run-requires c κs = search needs

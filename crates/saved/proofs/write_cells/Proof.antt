@@ -6,7 +6,7 @@ use borrow.Author.Needs.{needs}
 use lib.ListN.{length, length-take, length-drop}
 use Rattle.fileblocks.specs.FileBlock.{contentBytes}
 use Rattle.saved.specs.File.{fileBlocksFor}
-use Rattle.fileblocks.proofs.Front.{front-length}
+use Rattle.rooms.proofs.Written.{written-length}
 use Rattle.saved.proofs.Cells.{CellsWritten, cells-none, cells-more, cells-room, cells-all}
 use Rattle.saved.proofs.write_cells.Statement.{statement}
 use Rattle.saved.proofs.write_cells.Tie as tie
@@ -27,11 +27,11 @@ mul-loop c = omega arith
 mul-from : tie.Need-mul-from Inv-loop μ-loop
 mul-from c = omega arith
 
-add-least : tie.Need-add-least Inv-loop μ-loop
-add-least c = omega arith
+add-smaller : tie.Need-add-smaller Inv-loop μ-loop
+add-smaller c = omega arith
 
-least-requires : tie.Need-least-requires Inv-loop μ-loop
-least-requires c κs = search needs
+smaller-requires : tie.Need-smaller-requires Inv-loop μ-loop
+smaller-requires c κs = search needs
 
 mul-at : tie.Need-mul-at Inv-loop μ-loop
 mul-at c = omega arith
@@ -77,10 +77,10 @@ loop-less c = omega arith
 loop-again : tie.Need-loop-again Inv-loop μ-loop
 loop-again c =
     let turn = c .before .before .before .before .before in
-    cells-more (turn .before .before .loop .inv) (turn .before .loop-test .taken) (turn .least .ensures) (c .before .before .write-file-block .ensures)
+    cells-more (turn .before .before .loop .inv) (turn .before .loop-test .taken) (turn .smaller .ensures) (c .before .before .write-file-block .ensures)
 
 same-length : tie.Need-same-length Inv-loop μ-loop
-same-length c = front-length (c .before .loop .inv .written)
+same-length c = written-length (c .before .loop .inv .written)
 
 returns : tie.Need-returns Inv-loop μ-loop
 returns c = cells-all (c .before .loop .inv) (c .loop-test .left)
@@ -94,8 +94,8 @@ write-cells-spec =
     loop-holds
     mul-loop
     mul-from
-    add-least
-    least-requires
+    add-smaller
+    smaller-requires
     mul-at
     add-next
     add-write-file-block

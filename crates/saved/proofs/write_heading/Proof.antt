@@ -11,7 +11,8 @@ use Rattle.fileblocks.specs.FileBlock.{four, fileBlockOf}
 use Rattle.saved.specs.File.{heading}
 use Rattle.fileblocks.proofs.FileBlock.{length-four}
 use Rattle.saved.proofs.Heading.{length-heading}
-use Rattle.fileblocks.proofs.Front.{Front, front-part, front-length, front-all}
+use Rattle.rooms.specs.InnerRooms.{Written}
+use Rattle.rooms.proofs.Written.{written-part, written-length, written-all}
 use Rattle.saved.proofs.write_heading.Statement.{statement}
 use Rattle.saved.proofs.write_heading.Tie as tie
 
@@ -19,23 +20,23 @@ use Rattle.saved.proofs.write_heading.Tie as tie
 abbrev blank : List ℕ
 blank = 1 ∷ replicate 19 0
 
-started : Front blank blank (1 ∷ 0 ∷ 0 ∷ 0 ∷ []) 4
-started = record { size = refl; within = omega arith; is = refl }
+started : Written blank 0 (1 ∷ 0 ∷ 0 ∷ 0 ∷ []) 4 blank
+started = record { ends = refl; within = omega arith; kept = refl }
 
 -- the bytes with one, two, three and four numbers behind it
 module _ (run : Run) where
-  one : {a : List ℕ} → a ≡ four (run .window) → Front blank (putMid 4 4 blank a) (1 ∷ 0 ∷ 0 ∷ 0 ∷ a) 8
-  one {a} p = front-part 8 a started (omega arith) (omega arith) (ap length p ∙ length-four _)
+  one : {a : List ℕ} → a ≡ four (run .window) → Written blank 0 (1 ∷ 0 ∷ 0 ∷ 0 ∷ a) 8 (putMid 4 4 blank a)
+  one {a} p = written-part started 8 a (omega arith) (omega arith) (ap length p ∙ length-four _)
 
-  two : {a b : List ℕ} → a ≡ four (run .window) → b ≡ four (run .interval) → Front blank (putMid 8 4 (putMid 4 4 blank a) b) (1 ∷ 0 ∷ 0 ∷ 0 ∷ a ++ b) 12
-  two {a} {b} p q = front-part 12 b (one p) (omega arith) (omega arith) (ap length q ∙ length-four _)
+  two : {a b : List ℕ} → a ≡ four (run .window) → b ≡ four (run .interval) → Written blank 0 (1 ∷ 0 ∷ 0 ∷ 0 ∷ a ++ b) 12 (putMid 8 4 (putMid 4 4 blank a) b)
+  two {a} {b} p q = written-part (one p) 12 b (omega arith) (omega arith) (ap length q ∙ length-four _)
 
-  three : {a b c : List ℕ} → a ≡ four (run .window) → b ≡ four (run .interval) → c ≡ four (run .first) → Front blank (putMid 12 4 (putMid 8 4 (putMid 4 4 blank a) b) c) (1 ∷ 0 ∷ 0 ∷ 0 ∷ a ++ b ++ c) 16
-  three {c} p q r = front-part 16 c (two p q) (omega arith) (omega arith) (ap length r ∙ length-four _)
+  three : {a b c : List ℕ} → a ≡ four (run .window) → b ≡ four (run .interval) → c ≡ four (run .first) → Written blank 0 (1 ∷ 0 ∷ 0 ∷ 0 ∷ a ++ b ++ c) 16 (putMid 12 4 (putMid 8 4 (putMid 4 4 blank a) b) c)
+  three {c} p q r = written-part (two p q) 16 c (omega arith) (omega arith) (ap length r ∙ length-four _)
 
   whole : {a b c d : List ℕ} → a ≡ four (run .window) → b ≡ four (run .interval) → c ≡ four (run .first) → d ≡ four (run .last) → putMid 16 4 (putMid 12 4 (putMid 8 4 (putMid 4 4 blank a) b) c) d ≡ heading run
   unfolding heading
-  whole {d} p q r s = front-all (front-part 20 d (three p q r) (omega arith) (omega arith) (ap length s ∙ length-four _)) refl ∙ cc
+  whole {d} p q r s = written-all (written-part (three p q r) 20 d (omega arith) (omega arith) (ap length s ∙ length-four _)) refl ∙ cc
 
 array-write-bytes : tie.Need-array-write-bytes
 array-write-bytes c = search needs
@@ -59,7 +60,7 @@ part-bytes-start-2 : tie.Need-part-bytes-start-2
 part-bytes-start-2 c = search needs
 
 part-bytes-end-2 : tie.Need-part-bytes-end-2
-part-bytes-end-2 c = let l = front-length (one (c .before .before .before .before .args .run) (c .before .put-four .ensures)) in omega arith
+part-bytes-end-2 c = let l = written-length (one (c .before .before .before .before .args .run) (c .before .put-four .ensures)) in omega arith
 
 put-four-requires-2 : tie.Need-put-four-requires-2
 put-four-requires-2 c κs = search needs
@@ -71,7 +72,7 @@ part-bytes-start-3 : tie.Need-part-bytes-start-3
 part-bytes-start-3 c = search needs
 
 part-bytes-end-3 : tie.Need-part-bytes-end-3
-part-bytes-end-3 c = let l = front-length (two (c .before .before .before .before .before .before .before .args .run) (c .before .before .before .before .put-four .ensures) (c .before .put-four2 .ensures)) in omega arith
+part-bytes-end-3 c = let l = written-length (two (c .before .before .before .before .before .before .before .args .run) (c .before .before .before .before .put-four .ensures) (c .before .put-four2 .ensures)) in omega arith
 
 put-four-requires-3 : tie.Need-put-four-requires-3
 put-four-requires-3 c κs = search needs
@@ -83,7 +84,7 @@ part-bytes-start-4 : tie.Need-part-bytes-start-4
 part-bytes-start-4 c = search needs
 
 part-bytes-end-4 : tie.Need-part-bytes-end-4
-part-bytes-end-4 c = let l = front-length (three (c .before .before .before .before .before .before .before .before .before .before .args .run) (c .before .before .before .before .before .before .before .put-four .ensures) (c .before .before .before .before .put-four2 .ensures) (c .before .put-four3 .ensures)) in omega arith
+part-bytes-end-4 c = let l = written-length (three (c .before .before .before .before .before .before .before .before .before .before .args .run) (c .before .before .before .before .before .before .before .put-four .ensures) (c .before .before .before .before .put-four2 .ensures) (c .before .put-four3 .ensures)) in omega arith
 
 put-four-requires-4 : tie.Need-put-four-requires-4
 put-four-requires-4 c κs = search needs

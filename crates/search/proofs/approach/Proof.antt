@@ -27,8 +27,8 @@ far c = rw (by (c .before .before)) at (c .if1 .left)
 
 -- ---- where the last offset leads left
 
-wider-requires : tie.Need-wider-requires
-wider-requires c κs = search needs
+larger-requires : tie.Need-larger-requires
+larger-requires c κs = search needs
 
 sub-turns-past : tie.Need-sub-turns-past
 sub-turns-past c =
@@ -36,7 +36,7 @@ sub-turns-past c =
     let f = far e in
     let o = e .before .before .before .before .pre .outside in
     let m = by (e .before .before) in
-    let w = c .before .wider .ensures in
+    let w = c .before .larger .ensures in
     omega arith
 
 turns-past-requires : tie.Need-turns-past-requires
@@ -51,7 +51,7 @@ turns-past-requires c κs =
 turns-left : (c : tie.After-turns-past) → let s = c .before .before .before .before .before .before .before .before .before .before .args in Turned (s .before) (s .last) (c .turns-past .result) × (c .turns-past .result * natAbs (s .last .offset) ≤ s .at .distance)
 turns-left c =
     let e = c .before .before .before .before .before .before in
-    left-turns (e .before .before .before .before .pre) (far e) (rw (c .before .before .wider .ensures, by (e .before .before)) at (c .turns-past .ensures))
+    left-turns (e .before .before .before .before .pre) (far e) (rw (c .before .before .larger .ensures, by (e .before .before)) at (c .turns-past .ensures))
 
 mul-t10 : tie.Need-mul-t10
 mul-t10 c = let h = turns-left c in rw (by (c .before .before .before .before .before .before .before .before)) (record { fits = omega arith })
@@ -76,7 +76,7 @@ returns-2 c =
     let e = t .before .before .before in
     let h = e .before .before .before .before .pre in
     let m = by (e .before .before) in
-    λ p q st. rw m (near-left h (rw (toZ-ofZ (held-last (h .division))) at (t .if2 .taken)) (far e) (rw (d .before .before .wider .ensures, m) at (d .turns-past .ensures)) st)
+    λ p q st. rw m (near-left h (rw (toZ-ofZ (held-last (h .division))) at (t .if2 .taken)) (far e) (rw (d .before .before .larger .ensures, m) at (d .turns-past .ensures)) st)
 
 -- ---- where it leads right
 
@@ -153,7 +153,7 @@ approach-spec =
     (tie.spec
     size-requires
     returns
-    wider-requires
+    larger-requires
     sub-turns-past
     turns-past-requires
     mul-t10

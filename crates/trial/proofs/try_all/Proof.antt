@@ -11,7 +11,7 @@ try-all-spec =
     tie.close
     (tie.spec
     (λ ledger₀ state₀ turns₀ ledger state turns. length ledger ≡ length ledger₀)
-    (λ ledger₀ state₀ turns₀ ledger state turns. 1200 - turns)
+    (λ ledger₀ state₀ turns₀ ledger state turns. 2000 - turns)
     (λ c. search needs)
     (λ c κs. search needs)
     (λ c κs. search needs)

@@ -1,23 +1,24 @@
--- `fileblocks::clear` meets its contract. The invariant of its loop: the room is written with i zeros. The measure is what is left of the length.
+-- `rooms::clear` meets its contract. The invariant of its loop: the room is written with i zeros. The measure is what is left of the length.
 -- Assumes nothing.
 use Prim.Native.Nat.{ℕ, _-_}
 use native.Mathlib.Omega.{arith}
 use mathlib.Core.Path.{_≡_, _∙_, ap}
 use lib.ListN.{length, replicate-append-replicate}
 use Rattle.rooms.specs.Lists.{zeros}
-use Rattle.fileblocks.proofs.Front.{Front, front-none, front-one, front-length, front-all}
-use Rattle.fileblocks.proofs.clear.Statement.{statement}
-use Rattle.fileblocks.proofs.clear.Tie as tie
+use Rattle.rooms.specs.InnerRooms.{Written}
+use Rattle.rooms.proofs.Written.{written-none, written-more, written-length, written-all}
+use Rattle.rooms.proofs.clear.Statement.{statement}
+use Rattle.rooms.proofs.clear.Tie as tie
 
 abbrev Inv-loop : tie.InvT-loop
-Inv-loop room₀ i₀ room i = Front room₀ room (zeros i) i
+Inv-loop room₀ i₀ room i = Written room₀ 0 (zeros i) i room
 
 abbrev μ-loop : tie.MeasureT-loop
 μ-loop room₀ i₀ room i = length room₀ - i
 
 loop-holds : tie.Need-loop-holds Inv-loop μ-loop
 unfolding zeros
-loop-holds c = front-none _
+loop-holds c = written-none _ 0 (omega arith)
 
 slice-write-room : tie.Need-slice-write-room Inv-loop μ-loop
 slice-write-room c = omega arith
@@ -26,24 +27,24 @@ add-i : tie.Need-add-i Inv-loop μ-loop
 add-i c = omega arith
 
 loop-less : tie.Need-loop-less Inv-loop μ-loop
-loop-less c = let l = front-length (c .before .loop .inv) in omega arith
+loop-less c = let l = written-length (c .before .loop .inv) in omega arith
 
 loop-again : tie.Need-loop-again Inv-loop μ-loop
 unfolding zeros
 loop-again c =
     let inv = c .before .loop .inv in
-    let l = front-length inv in
-    rw (replicate-append-replicate {A = ℕ} (c .before .loop .i) 1 0) at (front-one 0 inv (omega arith))
+    let l = written-length inv in
+    rw (replicate-append-replicate {A = ℕ} (c .before .loop .i) 1 0) at (written-more inv 0 (omega arith))
 
 same-length : tie.Need-same-length Inv-loop μ-loop
-same-length c = front-length (c .before .loop .inv)
+same-length c = written-length (c .before .loop .inv)
 
 returns : tie.Need-returns Inv-loop μ-loop
 returns c =
     let inv = c .before .loop .inv in
-    let l = front-length inv in
+    let l = written-length inv in
     let all : c .before .loop .i ≡ length (c .before .before .args .room .now) = omega arith in
-    front-all inv all ∙ ap zeros all
+    written-all inv all ∙ ap zeros all
 
 pub clear-spec : {M : Type 1} → statement M
 clear-spec = tie.close (tie.spec Inv-loop μ-loop loop-holds slice-write-room add-i loop-less loop-again same-length returns)
