@@ -84,7 +84,7 @@ pub length-more : (n : ℕ) → 10 ≤ n → length (digits n) ≡ length (digit
 length-more n h = ap length (digits-more n h) ∙ length-append (digits (n / 10)) _
 
 -- a number has at least one digit
-pub length-pos : (n : ℕ) → 0 < length (digits n)
+length-pos : (n : ℕ) → 0 < length (digits n)
 length-pos = by-tens (λ n. 0 < length (digits n)) (λ n h. omega (arith, length-one n h)) (λ n h i. omega (arith, length-more n h))
 
 -- a number below 10 ^ (k + 1) has at most k + 1 digits

@@ -24,7 +24,7 @@ module _ (run : Run) where
   block-at v line (block ∷ blocks) low c zero h = let i = piece-is run blocks low c in record { valid = valid-block v i (c .0 .ordered); is = i }
   block-at v line (block ∷ blocks) low c (suc k) h = let p = c .0 in block-at v (suc (block .last)) blocks (omega arith) (c .1) k (omega arith)
 
-  -- the block at each place is a valid run and a block of the run
+  -- each block, by its number, is a valid run and a block of the run
   pub valid-at : ValidRun run → (blocks : List Run) → Cut run blocks → (k : ℕ) → k < length blocks → ValidBlock run (getD blocks k run)
   valid-at v blocks c = block-at v (run .first) blocks (omega arith) c
 

@@ -42,12 +42,12 @@ use Rattle.text.specs.declared.Input.{Input}
 use Rattle.words.specs.Line.{line}
 use Rattle.text.specs.Form.{Content}
 use Rattle.rooms.specs.Lists.{zeros, padded}
-use Rattle.text.specs.Promise.{Reads, replyTo, handed, refusal, saysText, TextPromise}
+use Rattle.text.specs.Promise.{mostSources, Reads, replyTo, handed, refusal, saysText, TextPromise}
 use Rattle.words.proofs.Lines.{line-split}
 use Rattle.text.proofs.Unique.{spells-unique}
 use Rattle.report.specs.declared.Output.{Output}
 use Rattle.report.specs.Report.{refusedWord, runReport, wholeReport, printed, reportOf}
-use Rattle.report.specs.Promise.{ReportPromise}
+use Rattle.report.specs.Promise.{roomBytes, ReportPromise}
 use Rattle.scope.specs.Table.{Row, _given_, Says, Silent, runTable}
 use Rattle.saved.specs.Table.{savingTable, readingTable}
 use Rattle.sources.specs.Table.{AtFault, sourcesTable}
@@ -156,8 +156,8 @@ module _ (text : List ℕ) (input : Input) (h : TextPromise text input) where
       let none-handed = go (h .content) (h .says) in
       let answers = refuses (input .answer) k in
       let counts = h .counts ∙ ap length none-handed in
-      let periods = h .periods ∙ ap (λ es. padded 64 (periodsOf es)) none-handed in
-      let weights = h .weights ∙ ap (λ es. padded 64 (weightsOf es)) none-handed in
+      let periods = h .periods ∙ ap (λ es. padded mostSources (periodsOf es)) none-handed in
+      let weights = h .weights ∙ ap (λ es. padded mostSources (weightsOf es)) none-handed in
       λ i. record { answer = answers i; count = counts i; periods = periods i; weights = weights i }
     where
       go : (o : Option Content) → saysText (input .answer) ≡ replyTo o → handed o ≡ []
@@ -186,7 +186,7 @@ pub report-refused : (text : List ℕ) (output : Output) → ReportPromise text 
 unfolding reportOf
 report-refused text output h n =
     let bytes = reportOf (h .content) in
-    let is : printedBy output ≡ bytes = ap (take (output .length)) (h .says .begins) ∙ padded-front 921600 (output .length) bytes (sym (h .says .counts)) in
+    let is : printedBy output ≡ bytes = ap (take (output .length)) (h .says .begins) ∙ padded-front roomBytes (output .length) bytes (sym (h .says .counts)) in
     rw is (Iff·trans (printed-refused (replyTo (h .content)) (handed (h .content)) n) (reply-refused text (h .content) (h .reads) n))
 
 -- ---- input that is not bad

@@ -13,7 +13,7 @@ use lib.ListN.{length, getD, set, length-set}
 use lib.Seq.{getD-set-same, getD-set-other}
 use borrow.Author.Tests.{eq-eqb, ne-eqb}
 use Rattle.scope.specs.declared.Run.{Run}
-use Rattle.scope.specs.Run.{ValidRun, UpTo, cellsOf}
+use Rattle.scope.specs.Run.{ValidRun, ceiling, UpTo, cellsOf}
 use Rattle.scope.specs.Hit.{isHit}
 use Rattle.sources.specs.Entry.{Entry}
 use Rattle.scope.proofs.Judged.{Passes, sound, both}
@@ -188,9 +188,9 @@ module _ (c : ℕ) where
 
   -- "Add the sources to the blocks in any order, each source once to each block": no call is refused, and "every cell then holds
   -- what it held before plus the weights of all its hits, or 255 if that is more".
-  pub blocks-add : {run : Run} {blocks : List Run} {sources : List Entry} {maps : List (List ℕ)} {calls : List Call} → History c run blocks sources maps calls → Adds c run blocks sources maps calls
+  pub blocks-add-at : {run : Run} {blocks : List Run} {sources : List Entry} {maps : List (List ℕ)} {calls : List Call} → History c run blocks sources maps calls → Adds c run blocks sources maps calls
   unfolding Left added
-  blocks-add {run} {blocks} {sources} {maps} {calls} h =
+  blocks-add-at {run} {blocks} {sources} {maps} {calls} h =
       let at = valid-at run (h .valid) blocks (h .cut) in
       let valid : (k : ℕ) → k < length blocks → ValidRun (getD blocks k run) = λ k i. at k i .valid in
       let state : State run blocks valid maps = record { as-many = maps-length run blocks maps (h .sized); sized = map-at run blocks maps (h .sized); small = h .small } in
@@ -212,8 +212,8 @@ module _ (c : ℕ) where
 
   -- "The certificate then compares readings that don't belong together": not so. Two cuts and two histories of the same sources,
   -- from equal cells of the run, end in equal cells of the run.
-  pub same-cells : {run : Run} {sources : List Entry} {blocks other : List Run} {maps maps′ : List (List ℕ)} {calls calls′ : List Call} → History c run blocks sources maps calls → History c run other sources maps′ calls′ → together maps ≡ together maps′ → together (leave maps calls) ≡ together (leave maps′ calls′)
-  same-cells {run} {sources} h h′ e = blocks-add h .whole ∙ ap (added c run sources) e ∙ sym (blocks-add h′ .whole)
+  pub same-cells-at : {run : Run} {sources : List Entry} {blocks other : List Run} {maps maps′ : List (List ℕ)} {calls calls′ : List Call} → History c run blocks sources maps calls → History c run other sources maps′ calls′ → together maps ≡ together maps′ → together (leave maps calls) ≡ together (leave maps′ calls′)
+  same-cells-at {run} {sources} h h′ e = blocks-add-at h .whole ∙ ap (added c run sources) e ∙ sym (blocks-add-at h′ .whole)
 
   -- ---- there is such a history: block after block, from the last one down, each with all sources in one call
 
@@ -259,9 +259,9 @@ module _ (c : ℕ) where
 
   -- For every valid run, every cut of it, all sources within the limits and all maps of bytes of the exact length there is one
   -- history at least, the one above: it shows that the theorems over histories are not empty, and no more. That other orders, with
-  -- the sources spread over more calls, add up too is what `blocks-add` says of every history.
-  pub history-exists : {run : Run} {blocks : List Run} {sources : List Entry} {maps : List (List ℕ)} → ValidRun run → Cut run blocks → ValidEntries c sources → Maps blocks maps → ((k : ℕ) → UpTo c (getD maps k [])) → (calls : List Call) × History c run blocks sources maps calls
-  history-exists {run} {blocks} {sources} {maps} v cut w sized small =
+  -- the sources spread over more calls, add up too is what `blocks-add-at` says of every history.
+  pub history-exists-at : {run : Run} {blocks : List Run} {sources : List Entry} {maps : List (List ℕ)} → ValidRun run → Cut run blocks → ValidEntries c sources → Maps blocks maps → ((k : ℕ) → UpTo c (getD maps k [])) → (calls : List Call) × History c run blocks sources maps calls
+  history-exists-at {run} {blocks} {sources} {maps} v cut w sized small =
       let valid : (k : ℕ) → k < length blocks → ValidRun (getD blocks k run) = λ k i. valid-at run v blocks cut k i .valid in (
         calls-on run blocks sources maps (length blocks),
         record {
@@ -274,3 +274,18 @@ module _ (c : ℕ) where
           once = λ k h. rw (to-each run blocks sources (length blocks) maps k h) (Permᴰ·refl sources);
         },
       )
+
+-- ---- demand 3, at 01's ceiling
+
+-- "Add the sources to the blocks in any order, each source once to each block": no call is refused, and "every cell then holds
+-- what it held before plus the weights of all its hits, or 255 if that is more".
+pub blocks-add : {run : Run} {blocks : List Run} {sources : List Entry} {maps : List (List ℕ)} {calls : List Call} → History ceiling run blocks sources maps calls → Adds ceiling run blocks sources maps calls
+blocks-add h = blocks-add-at ceiling h
+
+-- Two cuts and two histories that begin with the same cells leave the same cells.
+pub same-cells : {run : Run} {sources : List Entry} {blocks other : List Run} {maps maps′ : List (List ℕ)} {calls calls′ : List Call} → History ceiling run blocks sources maps calls → History ceiling run other sources maps′ calls′ → together maps ≡ together maps′ → together (leave maps calls) ≡ together (leave maps′ calls′)
+same-cells h h′ e = same-cells-at ceiling h h′ e
+
+-- Such a history exists for every cut and every map of bytes.
+pub history-exists : {run : Run} {blocks : List Run} {sources : List Entry} {maps : List (List ℕ)} → ValidRun run → Cut run blocks → ValidEntries ceiling sources → Maps blocks maps → ((k : ℕ) → UpTo ceiling (getD maps k [])) → (calls : List Call) × History ceiling run blocks sources maps calls
+history-exists v cut w sized small = history-exists-at ceiling v cut w sized small

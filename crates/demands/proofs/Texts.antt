@@ -24,7 +24,7 @@ use Rattle.decimal.specs.Digits.{largest}
 use Rattle.text.specs.declared.Answer.the-variants.{Read}
 use Rattle.text.specs.declared.Input.{Input}
 use Rattle.text.specs.Form.{Content, Spells, runNumbers, textOf}
-use Rattle.text.specs.Promise.{Reads, textTests, TextPromise, sourcesOf}
+use Rattle.text.specs.Promise.{mostSources, mostCells, Reads, textTests, TextPromise, sourcesOf}
 use Rattle.text.proofs.Says as Says
 use Rattle.text.proofs.Unique as Unique
 use Rattle.report.specs.declared.Output.{Output}
@@ -63,8 +63,8 @@ within text content = (
         record {
           valid = valid-run (passes-first (passes-first (passes-first tests))) (omega arith);
           within = valid-entries ceiling 1 (content .entries) (passes-then tests);
-          sources = ltb-false 64 (length (content .entries)) (passes-when (passes-then (passes-first (passes-first tests))));
-          cells = ltb-false 65536 (cellsOf (content .run)) (passes-when (passes-then (passes-first tests)));
+          sources = ltb-false mostSources (length (content .entries)) (passes-when (passes-then (passes-first (passes-first tests))));
+          cells = ltb-false mostCells (cellsOf (content .run)) (passes-when (passes-then (passes-first tests)));
         },
       ),
   λ h.

@@ -2,6 +2,7 @@
 use Prim.Native.Nat.{ℕ, _≤_}
 use mathlib.Core.List.{List}
 use lib.ListN.{length, take}
+use Rattle.text.specs.Promise.{mostSources, mostCells}
 use Rattle.scope.specs.Run.{ValidRun, ceiling, cellsOf}
 use Rattle.sources.specs.Lists.{ValidEntries}
 use Rattle.text.specs.Form.{Content}
@@ -12,8 +13,8 @@ use Rattle.report.specs.declared.Output.{Output}
 pub record Listable (content : Content) : Type 0 where
   pub valid : ValidRun (content .run)
   pub within : ValidEntries ceiling (content .entries)
-  pub sources : length (content .entries) ≤ 64
-  pub cells : cellsOf (content .run) ≤ 65536
+  pub sources : length (content .entries) ≤ mostSources
+  pub cells : cellsOf (content .run) ≤ mostCells
 
 -- What an output prints: of its bytes as many as it counts.
 abbrev pub printedBy : Output → List ℕ

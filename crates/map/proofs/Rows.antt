@@ -88,9 +88,9 @@ row-gain run source weight start x e =
     let p = source .period in
     let t = run .interval in
     let n = x / run .window in
-    let place : (start + n * (t % p)) % p ≡ (t * lineOf run x + origin run source) % p =
+    let there : (start + n * (t % p)) % p ≡ (t * lineOf run x + origin run source) % p =
     rw e (mod-add-mod (t * run .first + origin run source) p (n * (t % p)) ∙ steps-mod p _ t n ∙ ap (λ m. m % p) (omega arith)) in
-    rw (place, add-zero)
+    rw (there, add-zero)
     (⊎-elim
     (λ (h : isHit run source x ≡ true). rw h (spaced-hit p _ _ weight (sym (hit-on run source x .0 h))))
     (λ (h : isHit run source x ≡ false). rw h (spaced-miss p _ _ weight (λ e. miss-on run source x .0 h (sym e))))
@@ -133,7 +133,7 @@ module _ {c weight : ℕ} {old : List ℕ} {window period step first : ℕ} {map
       let l = rows .done .as-long in
       let line : (i : ℕ) → i < window → (i + base) / window ≡ n =
       λ i j. rw (rows .base-is, add-mul-div-right i n {z = window} (rows .some), div-eq-of-lt j) (omega arith) in
-      let place : (i : ℕ) → i < window → (i + base) % window ≡ i =
+      let across : (i : ℕ) → i < window → (i + base) % window ≡ i =
       λ i j. rw (rows .base-is) (add-mul-mod-self-right i n window ∙ mod-eq-of-lt j) in
       record {
         lines = suc n;
@@ -146,7 +146,7 @@ module _ {c weight : ℕ} {old : List ℕ} {window period step first : ℕ} {map
         base-is = omega (arith, rows .base-is);
         start-is = f ∙ rw (rows .start-is) (mod-add-mod (first + n * step) period step ∙ ap (λ m. m % period) (omega arith));
         small = rows .small;
-        done = patch (rows .done) (spaced period start weight) (omega arith) (omega arith) put (λ i (j : i < base + window - base). let inside : i < window = omega arith in rw (line i inside, place i inside, ← rows .start-is));
+        done = patch (rows .done) (spaced period start weight) (omega arith) (omega arith) put (λ i (j : i < base + window - base). let inside : i < window = omega arith in rw (line i inside, across i inside, ← rows .start-is));
       }
 
 pub rows-start : {c window period step first : ℕ} (weight : ℕ) (old : List ℕ) (all : ℕ) → length old ≡ window * all → 0 < window → window ≤ 4096 → period ≤ 2147483647 → step < period → first < period → UpTo c old → Rows c weight old window period step first old first 0

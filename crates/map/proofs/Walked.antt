@@ -71,7 +71,7 @@ module _ {run : Run} {source : Source} {walk : Walk} {from : LineHit} {old : Lis
     here : at .cell .0 < length map → Stands run source at
     here inside = let l = so-far .done .as-long in let w = crosses .whole in so-far .stands (omega arith)
 
-    -- the next place can be asked for
+    -- the next hit can be asked for
     pub walking : at .cell .0 < length map → Walking walk at
     walking inside =
         let l = so-far .done .as-long in

@@ -79,8 +79,8 @@ fn add_rows(run: Run, source: Source, weight: u8, map: &mut [u8])
     }
 }
 
-// Adds a weight at a hit, and then at every hit that the walk's step to the left alone leads to; what comes back is the first hit
-// after those, or a place past the map. A loop of its own, since the compiler keeps a branch here and not a chain of selects.
+// Adds a weight at a hit, and then at every hit that the walk's step to the left alone leads to; what comes back is the hit
+// after those, which may lie past the map. A loop of its own, since the compiler keeps a branch here and not a chain of selects.
 fn add_leftward(walk: Walk, from: LineHit, weight: u8, map: &mut [u8]) -> LineHit
     requires { ⌜ Crossing walk from (now map) ⌝ }
     ensures { λ to. ⌜ AddsLeft walk weight from to (now (map .entry)) (now (map .exit)) ⌝ }
@@ -133,15 +133,15 @@ fn add_chosen(run: Run, periods: &[u32], weights: &[u32], low: u32, high: u32, m
     requires { ⌜ ValidCall run (now periods) (now weights) (now map) ⌝ }
     ensures { λ _. ⌜ now (map .exit) ≡ added ceiling run (chosen low high (entriesOf (now (periods .entry)) (now (weights .entry)))) (now (map .entry)) ⌝ }
 {
-    let mut place = 0;
-    while place < periods.len() {
-        let period = periods[place];
+    let mut k = 0;
+    while k < periods.len() {
+        let period = periods[k];
         if low <= period {
             if period < high {
-                add_source(run, Source { period }, weights[place] as u8, map);
+                add_source(run, Source { period }, weights[k] as u8, map);
             }
         }
-        place += 1;
+        k += 1;
     }
 }
 

@@ -6,6 +6,7 @@ use mathlib.Core.Bool.{Bool, true, false, cond}
 use mathlib.Core.List.{List, [], _∷_, _++_}
 use lib.Dec.{eqb}
 use lib.ListN.{length, length-append}
+use Rattle.text.specs.Promise.{mostSources, mostCells}
 use Rattle.decimal.specs.Digits.{largest, digits}
 use Rattle.decimal.proofs.Laws.{length-le}
 use Rattle.words.proofs.Writing.{line-long}
@@ -24,7 +25,7 @@ use Rattle.report.proofs.Sources.{hits-few}
 
 -- ---- the sources
 
-entry-long : (run : Run) (k : ℕ) (e : Entry) → cellsOf run ≤ 65536 → k ≤ largest → ValidEntries ceiling (e ∷ []) → length (entryReport run k e) ≤ 48
+entry-long : (run : Run) (k : ℕ) (e : Entry) → cellsOf run ≤ mostCells → k ≤ largest → ValidEntries ceiling (e ∷ []) → length (entryReport run k e) ≤ 48
 unfolding entryReport
 entry-long run k e few place v =
     let own = v .0 in
@@ -32,7 +33,7 @@ entry-long run k e few place v =
     let s = own .source in
     line-long srcWord _ (up-to (k ∷ e .source .period ∷ e .weight ∷ length (hitsFrom run (e .source) 0) ∷ []) (place, (omega (arith, s .fits), (omega (arith, own .fits), (omega arith, tt)))))
 
-sources-long : (run : Run) (k : ℕ) (entries : List Entry) → cellsOf run ≤ 65536 → k + length entries ≤ 65536 → ValidEntries ceiling entries
+sources-long : (run : Run) (k : ℕ) (entries : List Entry) → cellsOf run ≤ mostCells → k + length entries ≤ mostCells → ValidEntries ceiling entries
     → length (srcReport run k entries) ≤ 48 * length entries
 unfolding srcReport
 sources-long run k [] few place v = omega arith
@@ -46,7 +47,7 @@ sources-long run k (e ∷ entries) few place v =
 
 -- ---- the cells
 
-cell-long : (x value : ℕ) → x < 65536 → value ≤ ceiling → length (cellReport x value) ≤ 14
+cell-long : (x value : ℕ) → x < mostCells → value ≤ ceiling → length (cellReport x value) ≤ 14
 unfolding cellReport line fields
 cell-long x value h v = go (eqb value 0)
   where
@@ -61,7 +62,7 @@ cell-long x value h v = go (eqb value 0)
           length-append (digits value) (10 ∷ []),
         )
 
-cells-long : (x : ℕ) (cells : List ℕ) → x + length cells ≤ 65536 → UpTo ceiling cells → length (mapReport x cells) ≤ 14 * length cells
+cells-long : (x : ℕ) (cells : List ℕ) → x + length cells ≤ mostCells → UpTo ceiling cells → length (mapReport x cells) ≤ 14 * length cells
 unfolding mapReport
 cells-long x [] h w = omega arith
 cells-long x (v ∷ cells) h w =
@@ -91,14 +92,14 @@ map-within : (run : Run) (entries : List Entry) → UpTo ceiling (reportedMap ru
 unfolding reportedMap
 map-within run entries = added-within ceiling run entries (zeros (cellsOf run))
 
-run-long : {run : Run} → ValidRun run → cellsOf run ≤ 65536 → length (runReport run) ≤ 59
+run-long : {run : Run} → ValidRun run → cellsOf run ≤ mostCells → length (runReport run) ≤ 59
 unfolding runReport
 run-long {run} v few =
     line-long runWord (runNumbers run ++ (cellsOf run ∷ []))
     (up-to (runNumbers run ++ (cellsOf run ∷ []))
     (omega (arith, v .wide), (omega (arith, v .fits), (omega (arith, v .ordered, v .ends), (omega (arith, v .ends), (omega arith, tt))))))
 
-pub whole-long : {run : Run} {periods weights : List ℕ} → ValidInput run periods weights → length (entriesOf periods weights) ≤ 64
+pub whole-long : {run : Run} {periods weights : List ℕ} → ValidInput run periods weights → length (entriesOf periods weights) ≤ mostSources
     → length (wholeReport run (entriesOf periods weights)) ≤ 920650
 unfolding wholeReport cellsReport endReport
 whole-long {run} {periods} {weights} a few =

@@ -6,6 +6,7 @@ use mathlib.Core.Bool.{not}
 use mathlib.Core.List.{List}
 use lib.ListN.{length, take}
 use borrow.Author.Tests.{eq-eqb}
+use Rattle.text.specs.Promise.{mostCells}
 use Rattle.rooms.specs.Lists.{zeros}
 use Rattle.rooms.proofs.Lists.{length-zeros, take-zeros}
 use Rattle.scope.specs.declared.Run.{Run}
@@ -20,10 +21,10 @@ use Rattle.report.specs.Report.{reportedMap}
 use Rattle.report.specs.Inner.{ValidInput}
 
 -- as many of the cleared cells as a run has
-pub cleared-part : (n : ℕ) → n ≤ 65536 → take (n - 0) (zeros 65536) ≡ zeros n
+pub cleared-part : (n : ℕ) → n ≤ mostCells → take (n - 0) (zeros mostCells) ≡ zeros n
 cleared-part n h =
     let all : n - 0 ≡ n = omega arith in
-    ap (λ k. take k (zeros 65536)) all ∙ take-zeros n 65536 h
+    ap (λ k. take k (zeros mostCells)) all ∙ take-zeros n mostCells h
 
 pub map-is : {run : Run} {periods weights map : List ℕ} {answer : Added} {after : List ℕ} → ValidInput run periods weights → map ≡ zeros (cellsOf run)
     → MapPromise run periods weights map answer after → after ≡ reportedMap run (entriesOf periods weights)

@@ -22,30 +22,30 @@ use Rattle.sources.specs.Lists.{periodsOf, weightsOf}
 use Rattle.sources.proofs.Entries.{periods-length, weights-length}
 use Rattle.words.specs.Line.{line}
 use Rattle.text.specs.Form.{Content, Spells}
-use Rattle.text.specs.Promise.{saysText, replyTo, handed, textTests, TextPromise, sourcesOf}
+use Rattle.text.specs.Promise.{mostSources, mostCells, saysText, replyTo, handed, textTests, TextPromise, sourcesOf}
 use Rattle.text.specs.declared.Input.{Input}
 use Rattle.text.specs.declared.Answer.the-variants.{Read, Refused}
 use Rattle.text.proofs.Unique.{sources-handed, accepted}
 use Rattle.report.specs.declared.Output.{Output}
 use Rattle.report.specs.Report.{refusedWord, wholeReport, printed, reportOf}
-use Rattle.report.specs.Promise.{Prints, ReportPromise}
+use Rattle.report.specs.Promise.{roomBytes, Prints, ReportPromise}
 use Rattle.report.specs.Inner.{ValidInput}
 
 -- ---- the room
 
 -- what was written into the blank room is the output
-pub prints : {room bytes : List ℕ} {next : ℕ} {after : List ℕ} → room ≡ zeros 921600 → Written room 0 bytes next after → Prints bytes (record { length = next; bytes = after })
+pub prints : {room bytes : List ℕ} {next : ℕ} {after : List ℕ} → room ≡ zeros roomBytes → Written room 0 bytes next after → Prints bytes (record { length = next; bytes = after })
 prints {room} {bytes} {next} {after} e w =
     let count : next ≡ length bytes = w .ends ∙ zero-add (length bytes) in
     record {
       counts = count;
-      begins = w .kept ∙ ap (λ k. bytes ++ drop k room) count ∙ ap (λ b. bytes ++ drop (length bytes) b) e ∙ sym (padded-is 921600 bytes);
+      begins = w .kept ∙ ap (λ k. bytes ++ drop k room) count ∙ ap (λ b. bytes ++ drop (length bytes) b) e ∙ sym (padded-is roomBytes bytes);
     }
 
 -- a word of seven letters and a number fit
-pub refusal-fits : (word : List ℕ) (n : ℕ) {room : List ℕ} → length word ≡ 7 → n ≤ largest → room ≡ zeros 921600 → 0 + length (line word (n ∷ [])) ≤ length room
+pub refusal-fits : (word : List ℕ) (n : ℕ) {room : List ℕ} → length word ≡ 7 → n ≤ largest → room ≡ zeros roomBytes → 0 + length (line word (n ∷ [])) ≤ length room
 refusal-fits word n seven small e =
-    omega (arith, line-long word (n ∷ []) (up-to (n ∷ []) (small, tt)), ap length e, length-zeros 921600)
+    omega (arith, line-long word (n ∷ []) (up-to (n ∷ []) (small, tt)), ap length e, length-zeros roomBytes)
 
 -- ---- the text
 
@@ -54,12 +54,12 @@ module _ {text : List ℕ} {input : Input} (p : TextPromise text input) where
   pub periods-within : input .count ≤ length (input .periods)
   periods-within =
       let es = handed (p .content) in
-      omega (arith, ap length (p .periods), padded-within 64 (periodsOf es), periods-length es, p .counts)
+      omega (arith, ap length (p .periods), padded-within mostSources (periodsOf es), periods-length es, p .counts)
 
   pub weights-within : input .count ≤ length (input .weights)
   weights-within =
       let es = handed (p .content) in
-      omega (arith, ap length (p .weights), padded-within 64 (weightsOf es), weights-length es, p .counts)
+      omega (arith, ap length (p .weights), padded-within mostSources (weightsOf es), weights-length es, p .counts)
 
   module _ {run : Run} (e : input .answer ≡ Read run) where
     -- what the text says
@@ -69,11 +69,11 @@ module _ {text : List ℕ} {input : Input} (p : TextPromise text input) where
     spells : Spells text content × Passes (textTests content)
     spells = accepted text input p content .0 (e, refl)
 
-    -- there are no more than 64 sources
-    pub few-sources : length (take (input .count - 0) (input .periods)) ≤ 64
+    -- there are no more sources than a text may have
+    pub few-sources : length (take (input .count - 0) (input .periods)) ≤ mostSources
     unfolding textTests
     few-sources =
-        let few = ltb-false 64 (length (sourcesOf input)) (passes-when (passes-then (passes-first (passes-first (spells .1))))) in
+        let few = ltb-false mostSources (length (sourcesOf input)) (passes-when (passes-then (passes-first (passes-first (spells .1))))) in
         omega (arith, length-take (input .count - 0) (input .periods), p .counts, ap length (sources-handed text input p))
 
     pub accepts : ValidInput run (take (input .count - 0) (input .periods)) (take (input .count - 0) (input .weights))
@@ -84,7 +84,7 @@ module _ {text : List ℕ} {input : Input} (p : TextPromise text input) where
         rw all
         (record {
           valid = valid-run (passes-first (passes-first (passes-first t))) (omega (arith, spells .0 .runSmall 1));
-          few = ltb-false 65536 (cellsOf run) (passes-when (passes-then (passes-first t)));
+          few = ltb-false mostCells (cellsOf run) (passes-when (passes-then (passes-first t)));
           equal = length-take-le (input .count) (input .periods) periods-within ∙ sym (length-take-le (input .count) (input .weights) weights-within);
           sound = passes-then t .is;
         })

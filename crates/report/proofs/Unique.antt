@@ -10,13 +10,13 @@ use Rattle.text.proofs.Says.{reads-exists}
 use Rattle.text.proofs.Unique.{reads-unique}
 use Rattle.report.specs.declared.Output.{Output}
 use Rattle.report.specs.Report.{reportOf}
-use Rattle.report.specs.Promise.{ReportPromise, PrintedOf}
+use Rattle.report.specs.Promise.{roomBytes, ReportPromise, PrintedOf}
 
 -- the bytes that are printed lie within the room
 pub output-within : {text : List ℕ} {output : Output} → ReportPromise text output → output .length ≤ length (output .bytes)
 output-within p =
     let bytes = reportOf (p .content) in
-    omega (arith, p .says .counts, ap length (p .says .begins), padded-within 921600 bytes)
+    omega (arith, p .says .counts, ap length (p .says .begins), padded-within roomBytes bytes)
 
 -- the bytes that are counted are what is printed
 pub output-prints : {text : List ℕ} {output : Output} → ReportPromise text output → PrintedOf text (take (output .length) (output .bytes))
@@ -25,7 +25,7 @@ output-prints p =
     record {
       content = p .content;
       reads = p .reads;
-      is = rw (p .says .begins) (padded-front 921600 _ bytes (sym (p .says .counts)));
+      is = rw (p .says .begins) (padded-front roomBytes _ bytes (sym (p .says .counts)));
     }
 
 -- no second output fits
@@ -33,7 +33,7 @@ pub report-unique : (text : List ℕ) (a b : Output) → ReportPromise text a �
 report-unique text a b p q =
     let e = ap reportOf (reads-unique text (p .content) (q .content) (p .reads) (q .reads)) in
     let counts : a .length ≡ b .length = p .says .counts ∙ ap length e ∙ sym (q .says .counts) in
-    let begins : a .bytes ≡ b .bytes = p .says .begins ∙ ap (padded 921600) e ∙ sym (q .says .begins) in
+    let begins : a .bytes ≡ b .bytes = p .says .begins ∙ ap (padded roomBytes) e ∙ sym (q .says .begins) in
     λ k. record { length = counts k; bytes = begins k }
 
 -- some output fits
@@ -41,4 +41,4 @@ pub report-exists : (text : List ℕ) → (output : Output) × ReportPromise tex
 report-exists text =
     let (o, r) = reads-exists text in
     let bytes = reportOf o in
-    (record { length = length bytes; bytes = padded 921600 bytes }, record { content = o; reads = r; says = record { counts = refl; begins = refl } })
+    (record { length = length bytes; bytes = padded roomBytes bytes }, record { content = o; reads = r; says = record { counts = refl; begins = refl } })

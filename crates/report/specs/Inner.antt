@@ -7,11 +7,12 @@ use lib.ListN.{length}
 use Rattle.scope.specs.declared.Run.{Run}
 use Rattle.scope.specs.Run.{ValidRun, ceiling, cellsOf}
 use Rattle.scope.specs.Refusal.{complaint}
+use Rattle.text.specs.Promise.{mostCells}
 use Rattle.sources.specs.Entry.{entriesOf, listTests}
 
 -- A run and lists of sources that a text may hold: nothing of them is refused.
 pub record ValidInput (run : Run) (periods weights : List ℕ) : Type 0 where
   pub valid : ValidRun run
-  pub few : cellsOf run ≤ 65536
+  pub few : cellsOf run ≤ mostCells
   pub equal : length periods ≡ length weights
   pub sound : complaint (listTests ceiling 1 (entriesOf periods weights)) ≡ none

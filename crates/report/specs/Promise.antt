@@ -10,10 +10,14 @@ use Rattle.text.specs.Promise.{Reads}
 use Rattle.report.specs.declared.Output.{Output}
 use Rattle.report.specs.Report.{reportOf}
 
--- The room, which the longest report fits into, begins with these bytes, and the rest of it is 0; their number is told.
+-- A room that the longest report fits into.
+abbrev pub roomBytes : ℕ
+roomBytes = 921600
+
+-- The room begins with these bytes, and the rest of it is 0; their number is told.
 pub record Prints (bytes : List ℕ) (output : Output) : Type 0 where
   pub counts : output .length ≡ length bytes
-  pub begins : output .bytes ≡ padded 921600 bytes
+  pub begins : output .bytes ≡ padded roomBytes bytes
 
 -- The promise of the report: the output is what is printed of the text.
 pub record ReportPromise (text : List ℕ) (output : Output) : Type 0 where

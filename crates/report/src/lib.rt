@@ -15,8 +15,9 @@ ghost use Rattle.words.specs.Line.{line};
 ghost use Rattle.scope.specs.Run.{ValidRun, ValidSource, cellsOf};
 ghost use Rattle.scope.specs.Hit.{hitsFrom};
 ghost use Rattle.sources.specs.Entry.{entriesOf};
+ghost use Rattle.text.specs.Promise.{mostSources, mostCells};
 ghost use Rattle.report.specs.Report.{runReport, entryReport, srcReport, cellReport, mapReport, above, endReport, reportedMap, cellsReport, wholeReport, refusedWord};
-ghost use Rattle.report.specs.Promise.{Prints, ReportPromise};
+ghost use Rattle.report.specs.Promise.{roomBytes, Prints, ReportPromise};
 ghost use Rattle.report.specs.Inner.{ValidInput};
 
 // Room for the longest report.
@@ -32,7 +33,7 @@ pub struct Output {
 
 // A room for the longest report, with nothing in it.
 fn blank() -> [u8; ROOM]
-    ensures { λ r. ⌜ r ≡ zeros 921600 ⌝ }
+    ensures { λ r. ⌜ r ≡ zeros roomBytes ⌝ }
 {
     [0; ROOM]
 }
@@ -90,21 +91,21 @@ fn write_cells(room: &mut [u8], at: usize, map: &[u8]) -> usize
 
 // Cells for the longest run that a text may have, with nothing in them.
 fn cleared() -> [u8; CELLS]
-    ensures { λ r. ⌜ r ≡ zeros 65536 ⌝ }
+    ensures { λ r. ⌜ r ≡ zeros mostCells ⌝ }
 {
     [0; CELLS]
 }
 
 // Room for as many hits as a run that a text may have has cells, with nothing in it.
 fn hit_room() -> [u64; CELLS]
-    ensures { λ r. ⌜ r ≡ zeros 65536 ⌝ }
+    ensures { λ r. ⌜ r ≡ zeros mostCells ⌝ }
 {
     [0; CELLS]
 }
 
 // How many cells of a run a source hits. They are no more than its cells, so all of them are listed in one call.
 fn count_hits(run: Run, source: Source) -> u64
-    requires { ⌜ ValidRun run × ValidSource source × (cellsOf run ≤ 65536) ⌝ }
+    requires { ⌜ ValidRun run × ValidSource source × (cellsOf run ≤ mostCells) ⌝ }
     ensures { λ r. ⌜ r ≡ length (hitsFrom run source 0) ⌝ }
 {
     let mut room = hit_room();
@@ -123,7 +124,7 @@ fn write_source(
     source: Source,
     weight: u32,
 ) -> usize
-    requires { ⌜ ValidRun run × ValidSource source × (cellsOf run ≤ 65536) ⌝ }
+    requires { ⌜ ValidRun run × ValidSource source × (cellsOf run ≤ mostCells) ⌝ }
     requires { ⌜ at + length (entryReport run place (record { source = source; weight = weight })) ≤ length (now room) ⌝ }
     ensures { λ r. ⌜ Written (now (room .entry)) at (entryReport run place (record { source = source; weight = weight })) r (now (room .exit)) ⌝ }
 {
@@ -215,7 +216,7 @@ fn write_report(room: &mut [u8], run: Run, periods: &[u32], weights: &[u32]) -> 
 
 // The output that is a report on a run and its sources.
 fn report_run(run: Run, periods: &[u32], weights: &[u32]) -> Output
-    requires { ⌜ ValidInput run (now periods) (now weights) × (length (now periods) ≤ 64) ⌝ }
+    requires { ⌜ ValidInput run (now periods) (now weights) × (length (now periods) ≤ mostSources) ⌝ }
     ensures { λ r. ⌜ Prints (wholeReport run (entriesOf (now (periods .entry)) (now (weights .entry)))) r ⌝ }
 {
     let mut bytes = blank();

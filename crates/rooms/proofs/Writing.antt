@@ -21,7 +21,7 @@ writing-starts room at whole h = record { done = []; writes = written-none room 
 
 module _ {before : List ℕ} {at : ℕ} {whole rest : List ℕ} {next : ℕ} {room : List ℕ} (w : Writing before at whole rest next room) where
   -- the rest fits
-  pub writing-fits : next + length rest ≤ length before
+  writing-fits : next + length rest ≤ length before
   writing-fits = omega (arith, w .writes .ends, w .fits, length-append (w .done) rest, ap length (w .makes))
 
   pub writing-long : length room ≡ length before

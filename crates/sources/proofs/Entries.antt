@@ -24,7 +24,7 @@ entries-length [] weights e = refl
 entries-length (p ∷ periods) [] e = absurd (omega arith)
 entries-length (p ∷ periods) (w ∷ weights) e = ap suc (entries-length periods weights (omega arith))
 
--- from place k on: the entry there, and those after it
+-- from k on, counted from 0: the entry there, and those after it
 pub entries-from : (periods weights : List ℕ) (k : ℕ) → k < length periods → k < length weights → entriesOf (drop k periods) (drop k weights) ≡ entry (getD periods k 0) (getD weights k 0) ∷ entriesOf (drop (suc k) periods) (drop (suc k) weights)
 unfolding entriesOf
 entries-from periods weights k h h′ = rw (drop-cons periods k 0 h, drop-cons weights k 0 h′)

@@ -17,7 +17,7 @@ use Rattle.sources.specs.Entry.{Entry, entriesOf}
 use Rattle.sources.specs.Lists.{periodsOf, weightsOf}
 use Rattle.sources.proofs.Entries.{entries-of, periods-length, weights-length}
 use Rattle.text.specs.Form.{runWord, runNumbers, srcLines, textOf, Content, Spells}
-use Rattle.text.specs.Promise.{Reads, textTests, handed, refusal, TextPromise}
+use Rattle.text.specs.Promise.{mostSources, Reads, textTests, handed, refusal, TextPromise}
 use Rattle.text.specs.Inner.{NotOfForm, Lines, storedIn, LinesListed, NoLines, SourcesAt, LinesAt}
 use Rattle.text.specs.declared.Input.{Input}
 use Rattle.text.specs.declared.Answer.the-variants.{Read}
@@ -73,13 +73,13 @@ refuses {content = content} s f e =
       weights = rw (e, empty);
     }
 
--- the lists of 64 zeros, after the numbers were stored at their beginning
-stored-padded : (numbers : List ℕ) (count : ℕ) → length numbers ≡ count → count ≤ 64 → storedIn numbers (zeros 64) ≡ padded 64 numbers
+-- the lists of zeros, after the numbers were stored at their beginning
+stored-padded : (numbers : List ℕ) (count : ℕ) → length numbers ≡ count → count ≤ mostSources → storedIn numbers (zeros mostSources) ≡ padded mostSources numbers
 stored-padded numbers count l h =
-    stored-fits numbers (zeros 64) (omega (arith, length-zeros 64)) ∙ sym (padded-is 64 numbers)
+    stored-fits numbers (zeros mostSources) (omega (arith, length-zeros mostSources)) ∙ sym (padded-is mostSources numbers)
 
-pub accepts : {text : List ℕ} {run : Run} {at count next : ℕ} {periods weights : List ℕ} (g : LinesListed text at (zeros 64) (zeros 64) periods weights count next)
-    → count ≤ 64
+pub accepts : {text : List ℕ} {run : Run} {at count next : ℕ} {periods weights : List ℕ} (g : LinesListed text at (zeros mostSources) (zeros mostSources) periods weights count next)
+    → count ≤ mostSources
     → Spells text (record { run = run; entries = g .entries }) → Passes (textTests (record { run = run; entries = g .entries }))
     → TextPromise text (record { answer = Read run; count = count; periods = periods; weights = weights })
 accepts {run = run} {count = count} g h s p =
@@ -89,16 +89,16 @@ accepts {run = run} {count = count} g h s p =
       reads = s;
       says = grant-reply run p;
       counts = sym (g .counted) ∙ ap length all;
-      periods = g .storesPeriods ∙ stored-padded (periodsOf (g .entries)) count (periods-length (g .entries) ∙ g .counted) h ∙ ap (λ es. padded 64 (periodsOf es)) all;
-      weights = g .storesWeights ∙ stored-padded (weightsOf (g .entries)) count (weights-length (g .entries) ∙ g .counted) h ∙ ap (λ es. padded 64 (weightsOf es)) all;
+      periods = g .storesPeriods ∙ stored-padded (periodsOf (g .entries)) count (periods-length (g .entries) ∙ g .counted) h ∙ ap (λ es. padded mostSources (periodsOf es)) all;
+      weights = g .storesWeights ∙ stored-padded (weightsOf (g .entries)) count (weights-length (g .entries) ∙ g .counted) h ∙ ap (λ es. padded mostSources (weightsOf es)) all;
     }
 
 -- the parts of the lists that are judged are the entries
-pub entries-stored : {text : List ℕ} {at count next : ℕ} {periods weights : List ℕ} (g : LinesListed text at (zeros 64) (zeros 64) periods weights count next)
-    → count ≤ 64 → entriesOf (take count periods) (take count weights) ≡ g .entries
+pub entries-stored : {text : List ℕ} {at count next : ℕ} {periods weights : List ℕ} (g : LinesListed text at (zeros mostSources) (zeros mostSources) periods weights count next)
+    → count ≤ mostSources → entriesOf (take count periods) (take count weights) ≡ g .entries
 entries-stored {count = count} {periods = periods} {weights = weights} g h =
-    let known : (numbers room : List ℕ) → room ≡ storedIn numbers (zeros 64) → length numbers ≡ count → take count room ≡ numbers =
-    λ numbers room e l. ap (take count) (e ∙ stored-padded numbers count l h) ∙ padded-front 64 count numbers l in
+    let known : (numbers room : List ℕ) → room ≡ storedIn numbers (zeros mostSources) → length numbers ≡ count → take count room ≡ numbers =
+    λ numbers room e l. ap (take count) (e ∙ stored-padded numbers count l h) ∙ padded-front mostSources count numbers l in
     let p = known (periodsOf (g .entries)) periods (g .storesPeriods) (periods-length (g .entries) ∙ g .counted) in
     let w = known (weightsOf (g .entries)) weights (g .storesWeights) (weights-length (g .entries) ∙ g .counted) in
     rw (p, w) (entries-of (g .entries))

@@ -18,7 +18,7 @@ use Rattle.sources.specs.Entry.{Entry}
 use Rattle.sources.specs.Lists.{periodsOf, weightsOf}
 use Rattle.sources.proofs.Entries.{entry, entries-of, periods-length, weights-length}
 use Rattle.text.specs.Form.{runWord, srcWord, runNumbers, srcNumbers, srcLines, textOf, Content, Spells}
-use Rattle.text.specs.Promise.{Reads, textTests, replyTo, handed, saysText, TextPromise, sourcesOf}
+use Rattle.text.specs.Promise.{mostSources, Reads, textTests, replyTo, handed, saysText, TextPromise, sourcesOf}
 use Rattle.text.specs.declared.Answer.{Answer}
 use Rattle.text.specs.declared.Answer.the-variants.{Read, Refused}
 use Rattle.text.specs.declared.Input.{Input}
@@ -89,7 +89,7 @@ says-answer (refused n) = refl
 pub text-exists : (text : List ℕ) → (input : Input) × TextPromise text input
 text-exists text =
     let (o, r) = reads-exists text in (
-      record { answer = answer (replyTo o); count = length (handed o); periods = padded 64 (periodsOf (handed o)); weights = padded 64 (weightsOf (handed o)) },
+      record { answer = answer (replyTo o); count = length (handed o); periods = padded mostSources (periodsOf (handed o)); weights = padded mostSources (weightsOf (handed o)) },
       record { content = o; reads = r; says = says-answer (replyTo o); counts = refl; periods = refl; weights = refl },
     )
 
@@ -99,9 +99,9 @@ pub sources-handed : (text : List ℕ) (input : Input) (p : TextPromise text inp
 sources-handed text input p =
     let es = handed (p .content) in
     let front : take (input .count) (input .periods) ≡ periodsOf es =
-    ap (take (input .count)) (p .periods) ∙ padded-front 64 (input .count) (periodsOf es) (periods-length es ∙ sym (p .counts)) in
+    ap (take (input .count)) (p .periods) ∙ padded-front mostSources (input .count) (periodsOf es) (periods-length es ∙ sym (p .counts)) in
     let beside : take (input .count) (input .weights) ≡ weightsOf es =
-    ap (take (input .count)) (p .weights) ∙ padded-front 64 (input .count) (weightsOf es) (weights-length es ∙ sym (p .counts)) in
+    ap (take (input .count)) (p .weights) ∙ padded-front mostSources (input .count) (weightsOf es) (weights-length es ∙ sym (p .counts)) in
     rw (front, beside) (entries-of es)
 
 pub accepted : (text : List ℕ) (input : Input) → TextPromise text input → (d : Content)

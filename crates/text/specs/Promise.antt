@@ -22,12 +22,20 @@ abbrev pub Reads : List ℕ → Option Content → Type 0
 Reads text (some content) = Spells text content
 Reads text none = (content : Content) → Spells text content → ⊥
 
--- "Text: 11, 1, 2, 3, 12, then each source 4 before 7", after 11. "12: more than 64 sources, or a run of more than 65,536 cells".
+-- "12: more than 64 sources".
+abbrev pub mostSources : ℕ
+mostSources = 64
+
+-- "12: .. or a run of more than 65,536 cells".
+abbrev pub mostCells : ℕ
+mostCells = 65536
+
+-- "Text: 11, 1, 2, 3, 12, then each source 4 before 7", after 11.
 unfoldable pub textTests : Content → Tests
 textTests content =
     runTests (content .run) andThen
-    TooMany when ltb 64 (length (content .entries)) andThen
-    TooMany when ltb 65536 (cellsOf (content .run)) andThen
+    TooMany when ltb mostSources (length (content .entries)) andThen
+    TooMany when ltb mostCells (cellsOf (content .run)) andThen
     listTests ceiling 1 (content .entries)
 
 -- What the reply is to be. "Anything else in the text is refused 11."
@@ -51,8 +59,8 @@ pub record TextPromise (text : List ℕ) (input : Input) : Type 0 where
   pub reads : Reads text content
   pub says : saysText (input .answer) ≡ replyTo content
   pub counts : input .count ≡ length (handed content)
-  pub periods : input .periods ≡ padded 64 (periodsOf (handed content))
-  pub weights : input .weights ≡ padded 64 (weightsOf (handed content))
+  pub periods : input .periods ≡ padded mostSources (periodsOf (handed content))
+  pub weights : input .weights ≡ padded mostSources (weightsOf (handed content))
 
 -- "`src period weight` lines, none or more": the sources that a reply hands out, as many as it counts.
 abbrev pub sourcesOf : Input → List Entry
@@ -60,4 +68,4 @@ sourcesOf input = entriesOf (take (input .count) (input .periods)) (take (input 
 
 -- A refusal's number with no source.
 abbrev pub refusal : ℕ → Input
-refusal n = record { answer = Refused n; count = 0; periods = zeros 64; weights = zeros 64 }
+refusal n = record { answer = Refused n; count = 0; periods = zeros mostSources; weights = zeros mostSources }

@@ -9,13 +9,13 @@ use Rattle.scope.specs.Run.{cellsOf}
 use Rattle.scope.specs.Table.{Row, _given_, Says, runTable}
 use Rattle.sources.specs.Table.{sourcesTable}
 use Rattle.text.specs.Form.{Content, Spells}
-use Rattle.text.specs.Promise.{Reads}
+use Rattle.text.specs.Promise.{mostSources, mostCells, Reads}
 
 -- "Text: 11, 1, 2, 3, 12, then each source 4 before 7": what follows 11, of what the text says.
 abbrev pub textTable : Content → List Row
 textTable content =
     runTable (content .run) ++
-    12 given ((64 < length (content .entries)) ⊎ (65536 < cellsOf (content .run))) ∷
+    12 given ((mostSources < length (content .entries)) ⊎ (mostCells < cellsOf (content .run))) ∷
     sourcesTable (content .entries)
 
 -- The table of a text says n. "Anything else in the text is refused 11": no run and sources are what it says; else what the

@@ -8,7 +8,7 @@ ghost use lib.Dec.{ltb};
 ghost use lib.ListN.{length};
 ghost use Rattle.scope.specs.Refusal.{_when_, TooMany, complaint};
 ghost use Rattle.scope.specs.InnerVerdict.{verdict};
-ghost use Rattle.text.specs.Promise.{refusal, TextPromise};
+ghost use Rattle.text.specs.Promise.{mostSources, refusal, TextPromise};
 ghost use Rattle.text.specs.Inner.{SourceAt, SourcesAt, LinesAt, runOf};
 
 // A text has at most so many bytes,
@@ -111,7 +111,7 @@ fn run_of(numbers: [u32; 4]) -> Run
 
 // What 01's table says of a number of sources: 12 for more than 64.
 fn judge_count(count: usize) -> Verdict
-    ensures { λ r. ⌜ r ≡ verdict (complaint (TooMany when ltb 64 count)) ⌝ }
+    ensures { λ r. ⌜ r ≡ verdict (complaint (TooMany when ltb mostSources count)) ⌝ }
 {
     if SOURCES < count {
         return Verdict::Refused(12);

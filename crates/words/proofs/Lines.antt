@@ -201,23 +201,23 @@ no-word {word = word} n count =
 -- ---- a line, number after number
 
 -- these numbers stand at `at`, each after a space, up to `next`
-abbrev Numbers : List ℕ → ℕ → List ℕ → ℕ → Type 0
-Numbers text at [] next = next ≡ at
-Numbers text at (v ∷ numbers) next = (end : ℕ) × Field text at v end × Numbers text end numbers next
+abbrev NumbersAt : List ℕ → ℕ → List ℕ → ℕ → Type 0
+NumbersAt text at [] next = next ≡ at
+NumbersAt text at (v ∷ numbers) next = (end : ℕ) × Field text at v end × NumbersAt text end numbers next
 
 module _ {text : List ℕ} where
-  numbers-more : (numbers : List ℕ) (at next : ℕ) {v end : ℕ} → Numbers text at numbers next → Field text next v end → Numbers text at (numbers ++ (v ∷ [])) end
+  numbers-more : (numbers : List ℕ) (at next : ℕ) {v end : ℕ} → NumbersAt text at numbers next → Field text next v end → NumbersAt text at (numbers ++ (v ∷ [])) end
   numbers-more [] at next {v} {end} n f = (end, subst (λ a. Field text a v end) n f, refl)
   numbers-more (w ∷ numbers) at next n f = (n .0, n .1, numbers-more numbers (n .0) next (n .2) f)
 
   -- numbers in front of numbers and a newline
-  numbers-join : (numbers : List ℕ) (at next : ℕ) {more : List ℕ} {end : ℕ} → Numbers text at numbers next → Fields text next more end
+  numbers-join : (numbers : List ℕ) (at next : ℕ) {more : List ℕ} {end : ℕ} → NumbersAt text at numbers next → Fields text next more end
       → Fields text at (numbers ++ more) end
   numbers-join [] at next {more} {end} n g = subst (λ a. Fields text a more end) n g
   numbers-join (w ∷ numbers) at next n g = field-joins (n .1) (numbers-join numbers (n .0) next (n .2) g)
 
   -- where so many more do not follow, there are no so many with them
-  numbers-refute : (numbers : List ℕ) (at next : ℕ) {count : ℕ} → Numbers text at numbers next → NoFields text next count
+  numbers-refute : (numbers : List ℕ) (at next : ℕ) {count : ℕ} → NumbersAt text at numbers next → NoFields text next count
       → NoFields text at (length numbers + count)
   numbers-refute [] at next {count} n g =
       let e : 0 + count ≡ count = omega arith in
@@ -237,7 +237,7 @@ pub record Passing (text : List ℕ) (at : ℕ) (word before room : List ℕ) (k
   pub start : ℕ
   pub named : Spelled text at word start
   pub numbers : List ℕ
-  pub stand : Numbers text start numbers next
+  pub stand : NumbersAt text start numbers next
   pub counted : length numbers ≡ k
   pub within : k ≤ length before
   pub long : length room ≡ length before

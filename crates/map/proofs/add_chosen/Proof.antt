@@ -1,4 +1,4 @@
--- `map::add_chosen` meets its contract. The loop's invariant: the chosen entries from place k on, added to the map as it
+-- `map::add_chosen` meets its contract. The loop's invariant: the chosen entries from k on, added to the map as it
 -- is, make what all chosen entries make of the map as it was. The measure is what is left of the lists. Assumes nothing.
 use borrow.Author.Needs.{needs}
 use native.Mathlib.Omega.{arith}
@@ -26,7 +26,7 @@ record Left (run : Run) (periods weights : List ℕ) (low high : ℕ) (map₀ ma
   same : added ceiling run (chosen low high (entriesOf (drop k periods) (drop k weights))) map ≡ added ceiling run (chosen low high (entriesOf periods weights)) map₀
 
 module _ {run : Run} {periods weights : List ℕ} {low high : ℕ} {map₀ map : List ℕ} {k : ℕ} (left : Left run periods weights low high map₀ map k) where
-  -- the entries left, by the one at place k
+  -- the entries left, by the one at k
   these : k < length periods → entriesOf (drop k periods) (drop k weights) ≡ entry (getD periods k 0) (getD weights k 0) ∷ entriesOf (drop (suc k) periods) (drop (suc k) weights)
   these h = let l = left .equal in entries-from periods weights k h (omega arith)
 
@@ -109,8 +109,8 @@ add-source-requires c κs =
     let p = here .before .before .before .before .before .pre in
     (p .valid, valid-here left (here .loop-test .taken) .source, left .as-long ∙ p .whole)
 
-add-place : tie.Need-add-place Inv-loop μ-loop
-add-place c = search needs
+add-k : tie.Need-add-k Inv-loop μ-loop
+add-k c = search needs
 
 loop-less : tie.Need-loop-less Inv-loop μ-loop
 loop-less c = search needs
@@ -146,7 +146,7 @@ add-chosen-spec =
     shared-slice-read-add-source
     cast-add-source
     add-source-requires
-    add-place
+    add-k
     loop-less
     loop-again
     same-length

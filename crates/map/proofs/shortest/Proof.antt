@@ -13,10 +13,10 @@ use Rattle.map.specs.Inner.{shortestOf}
 use Rattle.map.proofs.shortest.Statement.{statement}
 use Rattle.map.proofs.shortest.Tie as tie
 
--- the shortest from place k on is the one there, or the shortest after it
-from-place : (periods : List ℕ) (k : ℕ) → k < length periods → shortestOf (drop k periods) ≡ min (getD periods k 0) (shortestOf (drop (k + 1) periods))
+-- the shortest from k on, counted from 0, is the one there, or the shortest after it
+from-here : (periods : List ℕ) (k : ℕ) → k < length periods → shortestOf (drop k periods) ≡ min (getD periods k 0) (shortestOf (drop (k + 1) periods))
 unfolding shortestOf
-from-place periods k h = rw (add-one, drop-cons periods k 0 h)
+from-here periods k h = rw (add-one, drop-cons periods k 0 h)
 
 at-end : (periods : List ℕ) (k : ℕ) → length periods ≤ k → shortestOf (drop k periods) ≡ 2147483648
 unfolding shortestOf
@@ -38,7 +38,7 @@ starts periods = let b = below periods in record { within = omega arith; bounded
 
 step : {periods : List ℕ} {least k least′ : ℕ} → Kept periods least k → k < length periods → least′ ≡ min least (getD periods k 0) → Kept periods least′ (k + 1)
 step {periods} {least} {k} {least′} kept h e =
-    let f = from-place periods k h in
+    let f = from-here periods k h in
     let s = kept .same in
     record { within = omega arith; bounded = omega (arith, kept .bounded); same = omega arith }
 

@@ -4,6 +4,7 @@ use mathlib.Core.Logic.{⊎-elim}
 use Prim.Native.Nat.{ℕ}
 use native.Mathlib.Omega.{arith}
 use lib.ListN.{length}
+use Rattle.text.specs.Promise.{mostCells}
 use Rattle.scope.specs.Hit.{hitsFrom}
 use Rattle.hits.specs.declared.Listing.the-variants.{Done}
 use Rattle.rooms.proofs.Lists.{length-zeros}
@@ -18,7 +19,7 @@ done : (c : tie.After-list-hits)
     c .list-hits .result ≡ Done (length (hitsFrom (a .run) (a .source) 0))
 done c =
     let start = c .before .before .before in
-    let long = ap length (c .before .before .hit-room .ensures) ∙ length-zeros 65536 in
+    let long = ap length (c .before .before .hit-room .ensures) ∙ length-zeros mostCells in
     all-listed (start .pre .0) (start .pre .1) refl (omega (arith, start .pre)) (c .list-hits .ensures)
 
 hit-room-requires : tie.Need-hit-room-requires

@@ -2,6 +2,7 @@
 use native.Mathlib.Omega.{arith}
 use mathlib.Core.Path.{ap}
 use lib.ListN.{length}
+use Rattle.report.specs.Promise.{roomBytes}
 use Rattle.map.proofs.Entries.{entries-length}
 use Rattle.rooms.proofs.Lists.{length-zeros}
 use Rattle.report.proofs.Longest.{whole-long}
@@ -21,7 +22,7 @@ write-report-requires c κs =
     let start = c .before .before .before .before in
     let a = start .pre .0 in
     let few = entries-length (start .args .periods .now) (start .args .weights .now) (a .equal) in
-    (a, omega (arith, whole-long a (omega (arith, start .pre .1)), ap length (c .before .blank .ensures), length-zeros 921600))
+    (a, omega (arith, whole-long a (omega (arith, start .pre .1)), ap length (c .before .blank .ensures), length-zeros roomBytes))
 
 returns : tie.Need-returns
 returns c = prints (c .before .before .before .blank .ensures) (c .before .write-report .ensures)

@@ -4,6 +4,7 @@ use mathlib.Core.Path.{refl, ap, _∙_}
 use mathlib.Core.List.{_++_}
 use native.Mathlib.Omega.{arith}
 use lib.ListN.{take}
+use Rattle.text.specs.Promise.{mostCells}
 use Rattle.rooms.specs.Lists.{zeros}
 use Rattle.sources.specs.Entry.{entriesOf}
 use Rattle.report.specs.Report.{runReport, srcReport, cellsReport, wholeReport}
@@ -67,7 +68,7 @@ write-map-of-requires c κs =
     let cells = c .before .before in
     let written = cells .before .before .before .before in
     let start = written .before .before .before .before .before .before .before .before .before in
-    let few : cells .cells .result ≤ 65536 = omega (arith, cells .cells .ensures, start .pre .0 .few) in
+    let few : cells .cells .result ≤ mostCells = omega (arith, cells .cells .ensures, start .pre .0 .few) in
     let part =
     ap (take (cells .cells .result - 0)) (cells .before .cleared .ensures) ∙ cleared-part (cells .cells .result) few
     ∙ ap zeros (cells .cells .ensures) in

@@ -1,5 +1,5 @@
 -- `sources::judge_entries` meets its contract. The loop's invariant: the verdict on the whole list is the first of what was said of
--- the sources before place k and of the verdict on those from there on. The measure is what is left of the lists. Assumes nothing.
+-- the sources before k and of the verdict on those from there on. The measure is what is left of the lists. Assumes nothing.
 use borrow.Author.Needs.{needs}
 use native.Mathlib.Omega.{arith}
 use native.Mathlib.Numerals.{add-one}
@@ -19,7 +19,7 @@ use Rattle.scope.proofs.Verdicts.{verdict-then, verdict-source, first-of-three,
 use Rattle.sources.proofs.judge_entries.Statement.{statement}
 use Rattle.sources.proofs.judge_entries.Tie as tie
 
--- the verdict on the sources from place k on, counted from 0
+-- the verdict on the sources from k on, counted from 0
 abbrev rest : List ℕ → List ℕ → ℕ → Verdict
 rest periods weights k = verdict (complaint (listTests ceiling (suc k) (entriesOf (drop k periods) (drop k weights))))
 

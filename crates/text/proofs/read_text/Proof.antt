@@ -16,7 +16,7 @@ use Rattle.scope.proofs.Limits.{passes-when, passes-first, passes-then, valid-r
 use Rattle.sources.specs.Entry.{entriesOf, listTests}
 use Rattle.scope.proofs.Verdicts.{verdict-then}
 use Rattle.text.specs.Form.{runWord, runNumbers, Content, Spells}
-use Rattle.text.specs.Promise.{textTests}
+use Rattle.text.specs.Promise.{mostSources, mostCells, textTests}
 use Rattle.words.specs.Inner.{Line}
 use Rattle.text.specs.Inner.{AllLines, LinesAt}
 use Rattle.text.proofs.Lines.{line-run}
@@ -27,7 +27,7 @@ use Rattle.text.proofs.read_text.Tie as tie
 -- the lines that were read
 lines-read : (c : tie.After-enum-told)
     → let after = c .before .before .before .before .before .read-lines .last .1 in
-    AllLines (c .before .before .before .before .before .before .before .before .before .before .before .args .text .now) (after .0) (zeros 64) (zeros 64) (after .1 .0) (after .1 .1 .0) (after .1 .1 .1 .0) (c .enum-told .given .0 .0)
+    AllLines (c .before .before .before .before .before .before .before .before .before .before .before .args .text .now) (after .0) (zeros mostSources) (zeros mostSources) (after .1 .0) (after .1 .1 .0) (after .1 .1 .1 .0) (c .enum-told .given .0 .0)
 unfolding zeros
 lines-read c = subst (LinesAt _ _ _ _ _ _ _) (c .enum-told .given .1) (c .before .before .before .before .before .read-lines .ensures)
 
@@ -46,7 +46,7 @@ formed c = has-form (run-read c) (lines-read (c .before) .short) (lines-read (c 
 -- the verdict on the run and on the number of sources
 judged : (c : tie.After-first-of)
     → let d = content (c .before .before .before) in
-    c .first-of .result ≡ verdict (complaint (runTests (d .run) andThen TooMany when ltb 64 (length (d .entries))))
+    c .first-of .result ≡ verdict (complaint (runTests (d .run) andThen TooMany when ltb mostSources (length (d .entries))))
 judged c =
     let l = lines-read (c .before .before .before .before) .lists in
     rw (l .counted)
@@ -55,21 +55,21 @@ judged c =
 -- the tests that it has passed, and of the number of cells too
 few-passes : (c : tie.After-enum-told2)
     → let d = content (c .before .before .before .before .before) in
-    Passes (runTests (d .run) andThen TooMany when ltb 64 (length (d .entries)))
+    Passes (runTests (d .run) andThen TooMany when ltb mostSources (length (d .entries)))
 few-passes c = fine (judged (c .before .before)) (c .enum-told2 .given .1)
 
 cells-passes : (c : tie.Else1)
     → let d = content (c .before .before .before .before .before .before .before) in
-    Passes (runTests (d .run) andThen TooMany when ltb 64 (length (d .entries)) andThen TooMany when ltb 65536 (cellsOf (d .run)))
+    Passes (runTests (d .run) andThen TooMany when ltb mostSources (length (d .entries)) andThen TooMany when ltb mostCells (cellsOf (d .run)))
 cells-passes c =
     let run = c .before .before .before .before .before .before .before .run-of .result in
-    both (few-passes (c .before .before)) (sound (le-ltb 65536 (cellsOf run) (omega (arith, c .before .cells .ensures))))
+    both (few-passes (c .before .before)) (sound (le-ltb mostCells (cellsOf run) (omega (arith, c .before .cells .ensures))))
 
 -- the sources that were counted all have room
-few : (c : tie.After-enum-told2) → c .before .before .before .before .before .before .before .before .before .before .before .read-lines .last .1 .1 .1 .1 .0 ≤ 64
+few : (c : tie.After-enum-told2) → c .before .before .before .before .before .before .before .before .before .before .before .read-lines .last .1 .1 .1 .1 .0 ≤ mostSources
 few c =
     let l = lines-read (c .before .before .before .before .before .before) .lists in
-    let h = ltb-false 64 (length (l .entries)) (passes-when (passes-then (few-passes c))) in
+    let h = ltb-false mostSources (length (l .entries)) (passes-when (passes-then (few-passes c))) in
     omega (arith, l .counted)
 
 -- the parts of the two lists that are judged
@@ -152,7 +152,7 @@ unfolding textTests number
 returns-3 c =
     let run = c .before .before .before .before .before .before .before .before in
     refuses (formed run)
-    (first (then (few-passes (c .before .before .before)) (broken (lt-ltb 65536 (cellsOf (run .run-of .result)) (omega (arith, c .before .before .cells .ensures))))))
+    (first (then (few-passes (c .before .before .before)) (broken (lt-ltb mostCells (cellsOf (run .run-of .result)) (omega (arith, c .before .before .cells .ensures))))))
     (c .refuse3 .ensures)
 
 array-share-prefix-periods : tie.Need-array-share-prefix-periods
