@@ -92,7 +92,7 @@ whole-lattice : (run : Run) (source : Source) (i : ℤ) (j : ℕ) → Hits run s
 unfolding Hits InLattice instant
 whole-lattice run source i j = (λ h. h, λ h. h)
 
--- "With r = T mod p this is i ≡ r·j (mod p)": a source hits a place exactly if the place lies in the lattice of p and T mod p.
+-- "With r = T mod p this is i ≡ r·j (mod p)": a source hits an offset of a line exactly if these lie in the lattice of p and T mod p.
 pub hits-lattice : (run : Run) (source : Source) (i : ℤ) (j : ℕ) → Hits run source i j ↔ InLattice (source .period) (run .interval % source .period) (record { offset = i; line = j })
 hits-lattice run source i j =
     let p = source .period in

@@ -89,9 +89,9 @@ hit-count run source v cells h =
 pub joined-holds : (run : Run) (source : Source) (blocks : List Run) → ValidRun run → Cut run blocks → (lists : Listings source blocks) → EveryHitOnce run source (joined run source blocks lists)
 joined-holds run source blocks v cut lists = subst (EveryHitOnce run source) (sym (joined-is run source blocks v cut lists)) (every-hit-once run source v)
 
--- The same by places: a place of the run stands in the joined lists exactly if the source hits it.
-pub joined-places : (run : Run) (source : Source) (blocks : List Run) → ValidRun run → Cut run blocks → (lists : Listings source blocks) (i : ℤ) (j : ℕ) → InRun run i j → Hits run source i j ↔ ((y : RunCell) × List·Memᴰ y (joined run source blocks lists) × (offsetOf run (y .0) ≡ i) × (lineOf run (y .0) ≡ j))
-joined-places run source blocks v cut lists i j inside = (to, from)
+-- The same by offset and line: that cell of the run stands in the joined lists exactly if the source hits it.
+pub joined-offsets : (run : Run) (source : Source) (blocks : List Run) → ValidRun run → Cut run blocks → (lists : Listings source blocks) (i : ℤ) (j : ℕ) → InRun run i j → Hits run source i j ↔ ((y : RunCell) × List·Memᴰ y (joined run source blocks lists) × (offsetOf run (y .0) ≡ i) × (lineOf run (y .0) ≡ j))
+joined-offsets run source blocks v cut lists i j inside = (to, from)
   where
     holds : EveryHitOnce run source (joined run source blocks lists)
     holds = joined-holds run source blocks v cut lists

@@ -1,4 +1,4 @@
--- Bytes that are all zero, looked at from a place on. Assumes nothing.
+-- Bytes that are all zero, looked at from one of them on. Assumes nothing.
 use Prim.Native.Nat.{ℕ, zero, suc, _+_, _≤_, _<_}
 use mathlib.Core.Path.{_≡_, refl}
 use mathlib.Core.Bool.{Bool, true, false, cond}

@@ -39,7 +39,7 @@ fn check(block: &[u8]) -> u32
     sum
 }
 
-// Inner step. The number that the four bytes from `at` on stand for, the lowest byte first: at most 255 of each place, so that it fits.
+// Inner step. The number that the four bytes from `at` on stand for, the lowest first: each is at most 255, so that it fits.
 pub fn four_at(bytes: &[u8], at: usize) -> u32
     requires { ⌜ at + 4 ≤ length (now bytes) ⌝ }
     ensures { λ r. ⌜ r ≡ fourAt (now (bytes .entry)) at ⌝ }

@@ -2,7 +2,7 @@
 -- line j exactly if d and T·j + I/2 have one remainder by the period (`On`); whoever walks uses the laws of `On` alone.
 -- Then the list of hits: how it goes on from a cell, what it holds, and what blocks make of it. Assumes nothing.
 use Prim.Native.Nat.{ℕ, zero, suc, _+_, _-_, _*_, _/_, _%_, _≤_, _<_}
-use native.Mathlib.Nat.{mod-lt, mod-mod, add-mod-right, div-add-mod', mod-add-div', mul-le-mul-right, add-zero, zero-add, suc-add}
+use native.Mathlib.Nat.{mod-lt, add-mod-right, div-add-mod', mod-add-div', mul-le-mul-right, add-zero, zero-add, suc-add}
 use native.Mathlib.Decide.{decLt}
 use native.Mathlib.Omega.{arith}
 use mathlib.Core.Path.{_≡_, refl, sym, ap, _∙_}
@@ -75,10 +75,6 @@ same-test false true e = e .1 refl
 same-test false false e = refl
 
 -- on each line the remainder is hit; whole periods do not matter; after a hit the next is a period on or later
-pub on-first : (run : Run) (source : Source) (j : ℕ) → On run source ((run .interval * j + origin run source) % source .period) j
-unfolding On
-on-first run source j = sym (mod-mod (run .interval * j + origin run source) (source .period))
-
 pub on-period : (run : Run) (source : Source) (d j : ℕ) → On run source (d + source .period) j ↔ On run source d j
 unfolding On
 on-period run source d j = rw (add-mod-right d (source .period)) (λ o. o, λ o. o)
@@ -162,14 +158,6 @@ module _ (run : Run) (source : Source) where
   hits-over x y h f =
       let e : x + (y - x) ≡ y = omega arith in
       rw e at (hits-pass (y - x) x (λ z k l. f z k (omega arith)))
-
-  -- no hit any more
-  pub hits-none : (x : ℕ) → ((z : ℕ) → x ≤ z → z < cellsOf run → isHit run source z ≡ false) → hitsFrom run source x ≡ []
-  hits-none x f = go (decLt x (cellsOf run))
-    where
-      go : Dec (x < cellsOf run) → hitsFrom run source x ≡ []
-      go (yes h) = hits-over x (cellsOf run) (omega arith) f ∙ hits-end (cellsOf run) (omega arith)
-      go (no h) = hits-end x (omega arith)
 
   -- m cells and then n cells
   pub hits-split : (x m n : ℕ) → hitsAmong run source x (m + n) ≡ hitsAmong run source x m ++ hitsAmong run source (x + m) n

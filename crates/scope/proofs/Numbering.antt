@@ -1,7 +1,7 @@
 -- Cell numbers. A run's cells are numbered from 0 on, by lines and on a line by offsets, each once: `cell-in-run`,
 -- `cell-number`, `number-cell`, `cell-order`. A block's cells are the run's, moved by the block's shift.
 -- d = offset + I/2, the distance from the window's left edge, is x % I, and the lines before are x / I. Assumes nothing.
-use Prim.Native.Nat.{ℕ, zero, suc, _+_, _-_, _*_, _/_, _%_, _^_, _≤_, _<_}
+use Prim.Native.Nat.{ℕ, suc, _+_, _-_, _*_, _/_, _%_, _^_, _≤_, _<_}
 use native.Mathlib.Nat.{div-add-mod', mod-lt, div-lt-iff-lt-mul, mod-eq-of-lt, mul-add-mod-self-right, mul-add-div-right, mul-le-mul, mul-le-mul-left, mul-le-mul-right, add-mul-div-right, add-mul-mod-self-right, div-eq-of-lt}
 use native.Mathlib.Decide.{decLt}
 use native.Mathlib.Omega.{arith}
@@ -16,7 +16,7 @@ pub use Rattle.scope.specs.Run.{InRun}
 pub use Rattle.scope.specs.InnerBlock.{IsBlock}
 use Rattle.scope.proofs.Limits.{halves}
 
--- ---- cells and places
+-- ---- cells, and offsets of lines
 
 -- the lines before, in cells
 lines-before : {f j : ℕ} (w : ℕ) → f ≤ j → (pos j -ℤ pos f) *ℤ pos w ≡ pos ((j - f) * w)
@@ -85,7 +85,7 @@ distance {run} v i j w =
       is = omega (arith, parts, sum i half, apart (i +ℤ half), neg-up half, neg-dn half);
     }
 
--- the cell with the place (i, j)
+-- the cell at offset i of line j
 pub record CellAt (run : Run) (i : ℤ) (j : ℕ) : Type 0 where
   pub cell : ℕ
   pub fits : cell < cellsOf run
@@ -148,10 +148,6 @@ cell-order {run} v x y = (λ l. to (decide .0 l), λ b. decide .1 (from b))
     from (inl a) = inl (omega arith)
     from (inr e) = inr (omega arith, offset-order run x y .0 (e .1))
 
--- a cell has its place alone
-pub cell-same : (run : Run) (x y : ℕ) → offsetOf run x ≡ offsetOf run y → lineOf run x ≡ lineOf run y → x ≡ y
-cell-same run x y e f = cc (cell-number run x, cell-number run y)
-
 -- ---- blocks
 
 -- a block with a line keeps the limits of its run
@@ -167,17 +163,7 @@ pub offset-shift : {run block : Run} → IsBlock run block → (x : ℕ) → off
 unfolding offsetOf shiftOf
 offset-shift {run} {block} b x = rw (b .window, add-mul-mod-self-right x (block .first - run .first) (run .window))
 
--- l lines of n cells, k lines on
-lines-on : (n l k m x : ℕ) → x < n * l → (0 < l → l + k ≤ m) → x + k * n < n * m
-lines-on n zero k m x h i = absurd (omega arith)
-lines-on n (suc l) k m x h i = omega (arith, mul-le-mul-left n (i (omega arith)))
-
-pub cell-shift : {run block : Run} → IsBlock run block → (x : ℕ) → x < cellsOf block → x + shiftOf run block < cellsOf run
-unfolding cellsOf linesOf shiftOf
-cell-shift {run} {block} b x h =
-    lines-on (run .window) (suc (block .last) - block .first) (block .first - run .first) (suc (run .last) - run .first) x (rw (b .window) at h) (λ some. omega arith)
-
--- of consecutive blocks the first is not shifted, each next by the cells of those before it, and the last ends with the run
+-- of consecutive blocks the first is not shifted, each next by the cells of those before it
 pub shift-first : (run block : Run) → block .first ≡ run .first → shiftOf run block ≡ 0
 unfolding shiftOf
 shift-first run block e = let z : block .first - run .first ≡ 0 = omega arith in rw z (omega arith)
@@ -186,12 +172,6 @@ pub shift-next : {run block : Run} → IsBlock run block → (next : Run) → bl
 unfolding shiftOf cellsOf linesOf
 shift-next {run} {block} b next some e =
     let k : next .first - run .first ≡ (block .first - run .first) + (suc (block .last) - block .first) = omega arith in
-    rw (k, b .window) (omega arith)
-
-pub shift-last : {run block : Run} → IsBlock run block → block .first ≤ suc (block .last) → block .last ≡ run .last → shiftOf run block + cellsOf block ≡ cellsOf run
-unfolding shiftOf cellsOf linesOf
-shift-last {run} {block} b some e =
-    let k : suc (run .last) - run .first ≡ (block .first - run .first) + (suc (block .last) - block .first) = omega arith in
     rw (k, b .window) (omega arith)
 
 -- a shift is no larger than a run can be
