@@ -4,7 +4,7 @@ ghost use Prim.Native.Nat.{_+_, _≤_, _<_};
 ghost use mathlib.Core.Path.{_≡_};
 ghost use mathlib.Core.List.{[], _∷_};
 ghost use lib.ListN.{length, drop};
-ghost use Rattle.rooms.specs.InnerRooms.{Written};
+ghost use Rattle.rooms.specs.Inner.{Written};
 ghost use Rattle.decimal.specs.Digits.{digits};
 ghost use Rattle.decimal.specs.Inner.{beginsWithDigit, Reading};
 

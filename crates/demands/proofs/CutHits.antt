@@ -8,7 +8,7 @@ use mathlib.Core.List.{List, [], _∷_, _++_, map}
 use Rattle.scope.specs.declared.Run.{Run}
 use Rattle.scope.specs.declared.Source.{Source}
 use Rattle.scope.specs.Run.{ValidRun, cellsOf, shiftOf}
-use Rattle.scope.specs.InnerBlock.{IsBlock}
+use Rattle.scope.specs.Inner.{IsBlock}
 use Rattle.scope.specs.Hit.{hitsAmong, hitsFrom}
 use Rattle.scope.proofs.Hits.{hits-end, hits-split, hits-block}
 use Rattle.demands.specs.Cut.{CutFrom, Cut}

@@ -7,7 +7,7 @@ use mathlib.Core.Logic.{_⊎_, inl, inr}
 use mathlib.Core.List.{List, [], _∷_, List·Memᴰ, List·Memᴰ·not-nil, List·Memᴰ·cases-cons}
 use Rattle.scope.specs.declared.Run.{Run}
 use Rattle.scope.specs.Run.{ValidRun, linesOf, cellsOf, shiftOf}
-use Rattle.scope.specs.InnerBlock.{IsBlock}
+use Rattle.scope.specs.Inner.{IsBlock}
 use Rattle.scope.proofs.Numbering.{valid-block, shift-next}
 use Rattle.demands.specs.Cut.{Piece, CutFrom, Cut}
 

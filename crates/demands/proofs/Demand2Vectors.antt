@@ -30,10 +30,10 @@ use Rattle.vectors.specs.Promise.{vectorsTests, saysVectors, Admits, VectorsPro
 use Rattle.vectors.proofs.Unique as Theorems
 use Rattle.vectors.proofs.Proposition as Proposition
 use Rattle.demands.specs.FirstHit.{HitsCell}
-use Rattle.demands.specs.StepVectors.{Asked, StepVectors}
+use Rattle.demands.specs.StepVectors.{ValidQuestion, StepVectors}
 
 -- what the demand asks with passes the tests
-accepted : {p r I : ℕ} → Asked p r I → Passes (vectorsTests p r I)
+accepted : {p r I : ℕ} → ValidQuestion p r I → Passes (vectorsTests p r I)
 unfolding vectorsTests periodTests
 accepted {p} {r} {I} a =
     both (both (both (valid-window-passes (record { even = a .even; narrow = a .narrow; wide = a .wide }))
@@ -60,16 +60,16 @@ admits-is I is (refused n) = (λ h. h, λ h. h)
 
 -- "the step vectors are those of Franke and Kleinjung's first proposition, or the single vector": a reply fits the promise
 -- exactly if what it says is these.
-pub vectors-are : (p r I g : ℕ) → Asked p r I → IsGcd g r p → (steps : Steps) → VectorsPromise p r I steps ↔ StepVectors p r I g (saysVectors steps)
+pub vectors-are : (p r I g : ℕ) → ValidQuestion p r I → IsGcd g r p → (steps : Steps) → VectorsPromise p r I steps ↔ StepVectors p r I g (saysVectors steps)
 unfolding VectorsPromise
 vectors-are p r I g a is steps = rw (accepted a .is) (admits-is I is (saysVectors steps))
 
 -- "where no such pair exists": some pair meets the proposition's conditions exactly if g is less than the window.
-pub pair-exists : (p r I g : ℕ) → Asked p r I → IsGcd g r p → APair p r I ↔ (g < I)
+pub pair-exists : (p r I g : ℕ) → ValidQuestion p r I → IsGcd g r p → APair p r I ↔ (g < I)
 pair-exists p r I g a is = Theorems.pair-exactly-when (a .remainder) (a .fits) is
 
 -- "with g = gcd(r, p) .. no pair exists exactly when g ≥ I".
-pub no-pair-exists : (p r I g : ℕ) → Asked p r I → IsGcd g r p → (APair p r I → ⊥) ↔ (I ≤ g)
+pub no-pair-exists : (p r I g : ℕ) → ValidQuestion p r I → IsGcd g r p → (APair p r I → ⊥) ↔ (I ≤ g)
 no-pair-exists p r I g a is = Theorems.no-pair-exactly-when (a .remainder) (a .fits) is
 
 -- "At most one such pair exists."
@@ -85,7 +85,7 @@ pub second-half : (p r I : ℕ) {left right : Vector} → IsPair p r I left righ
 second-half p r I h = Proposition.second-half h
 
 -- "the only hits in the window are at offset 0, on multiples of p/g", where the single vector is the reply.
-pub only-zero : (p r I g : ℕ) → Asked p r I → IsGcd g r p → I ≤ g → (v : Vector) → negℤ (pos (I / 2)) ≤ℤ v .offset → v .offset <ℤ pos (I / 2) → InLattice p r v ↔ ((v .offset ≡ pos 0) × (p / g ∣ v .line))
+pub only-zero : (p r I g : ℕ) → ValidQuestion p r I → IsGcd g r p → I ≤ g → (v : Vector) → negℤ (pos (I / 2)) ≤ℤ v .offset → v .offset <ℤ pos (I / 2) → InLattice p r v ↔ ((v .offset ≡ pos 0) × (p / g ∣ v .line))
 only-zero p r I g a is wide = Proposition.only-zero (omega arith) is wide
 
 whole-lattice : (run : Run) (source : Source) (i : ℤ) (j : ℕ) → Hits run source i j ↔ InLattice (source .period) (run .interval) (record { offset = i; line = j })

@@ -31,7 +31,7 @@ use Rattle.report.specs.declared.Output.{Output}
 use Rattle.report.specs.Report.{wholeReport, printed, reportOf}
 use Rattle.report.specs.Promise.{ReportPromise}
 use Rattle.report.proofs.Unique.{output-prints}
-use Rattle.demands.specs.Texts.{Listable, printedBy}
+use Rattle.demands.specs.Texts.{ValidContent, printedBy}
 
 -- what is within the limits has small numbers
 run-small : {run : Run} → ValidRun run → UpTo largest (runNumbers run)
@@ -52,7 +52,7 @@ weights-small (e ∷ entries) w =
     up-to-cons (e .weight) (weightsOf entries) (omega arith) (weights-small entries (w .1))
 
 -- the tests of a text that has the form, and the limits
-within : (text : List ℕ) (content : Content) → (Spells text content × Passes (textTests content)) ↔ ((text ≡ textOf content) × (length text ≤ 4096) × Listable content)
+within : (text : List ℕ) (content : Content) → (Spells text content × Passes (textTests content)) ↔ ((text ≡ textOf content) × (length text ≤ 4096) × ValidContent content)
 unfolding textTests
 within text content = (
   λ h.
@@ -78,7 +78,7 @@ within text content = (
 
 -- A text is accepted with a run and sources exactly if it is how they are written, has at most 4,096 bytes, and they are within
 -- the limits.
-pub text-accepted : (text : List ℕ) (input : Input) → TextPromise text input → (content : Content) → ((input .answer ≡ Read (content .run)) × (sourcesOf input ≡ content .entries)) ↔ ((text ≡ textOf content) × (length text ≤ 4096) × Listable content)
+pub text-accepted : (text : List ℕ) (input : Input) → TextPromise text input → (content : Content) → ((input .answer ≡ Read (content .run)) × (sourcesOf input ≡ content .entries)) ↔ ((text ≡ textOf content) × (length text ≤ 4096) × ValidContent content)
 text-accepted text input h content = Iff·trans (Unique.accepted text input h content) (within text content)
 
 -- Two runs with their sources are not written the same.
@@ -112,7 +112,7 @@ report-cut text output = (
 )
 
 -- "The input .. gives, whole": of a run and sources within the limits, written in at most 4,096 bytes, the whole report is printed.
-pub report-whole : (content : Content) (output : Output) → length (textOf content) ≤ 4096 → Listable content → ReportPromise (textOf content) output → printedBy output ≡ wholeReport (content .run) (content .entries)
+pub report-whole : (content : Content) (output : Output) → length (textOf content) ≤ 4096 → ValidContent content → ReportPromise (textOf content) output → printedBy output ≡ wholeReport (content .run) (content .entries)
 unfolding reportOf printed
 report-whole content output short limits h =
     let text = textOf content in

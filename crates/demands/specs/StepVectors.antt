@@ -7,7 +7,7 @@ use Rattle.scope.specs.Reply.{Said, refused, answered}
 use Rattle.vectors.specs.Vectors.{vector, IsPair, Values, pair, single}
 
 -- "each period, remainder below it and window no wider than it", within 01's ranges.
-pub record Asked (p r I : ℕ) : Type 0 where
+pub record ValidQuestion (p r I : ℕ) : Type 0 where
   pub period : p ≤ 2147483647
   pub remainder : r < p
   pub even : I % 2 ≡ 0

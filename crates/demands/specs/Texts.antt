@@ -10,7 +10,7 @@ use Rattle.report.specs.declared.Output.{Output}
 
 -- A run and sources within the limits: those of the table of ranges, and 12's "more than 64 sources, or a run of more than
 -- 65,536 cells" kept.
-pub record Listable (content : Content) : Type 0 where
+pub record ValidContent (content : Content) : Type 0 where
   pub valid : ValidRun (content .run)
   pub within : ValidEntries ceiling (content .entries)
   pub sources : length (content .entries) ≤ mostSources

@@ -6,7 +6,7 @@ ghost use Prim.Native.Nat.{_+_, _*_, _≤_, _<_};
 ghost use lib.ListN.{length, drop};
 ghost use Rattle.rooms.specs.Lists.{zeros};
 ghost use Rattle.scope.specs.Refusal.{complaint};
-ghost use Rattle.scope.specs.InnerVerdict.{verdict};
+ghost use Rattle.scope.specs.Inner.{verdict};
 ghost use Rattle.fileblocks.specs.FileBlock.{fileBlockBytes, contentBytes, checkAt, four, fourAt, checkOf, fileBlockOf, allZero, sealedWith, fileBlockTests};
 
 // A file block has so many bytes: its number, its contents, its check.

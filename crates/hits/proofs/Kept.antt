@@ -16,8 +16,8 @@ use Rattle.scope.specs.Reply.{answered}
 use Rattle.scope.proofs.Hits.{hits-end, hits-at, hits-over}
 use Rattle.hits.specs.declared.Listing.the-variants.{Done, More}
 use Rattle.hits.specs.Promise.{first, listed, written}
-use Rattle.search.specs.InnerSearch.{FirstFrom}
-use Rattle.hits.specs.InnerList.{ListsFrom}
+use Rattle.search.specs.Inner.{FirstFrom}
+use Rattle.hits.specs.Inner.{ListsFrom}
 use Rattle.hits.proofs.Lists.{hits-same}
 
 pub record Kept (run : Run) (source : Source) (start : ℕ) (before room : List ℕ) (n x : ℕ) : Type 0 where

@@ -22,8 +22,8 @@ use Rattle.scope.specs.Hit.{isHit}
 use Rattle.walk.specs.declared.LineHit.{LineHit}
 use Rattle.walk.specs.declared.Walk.{Walk}
 use Rattle.hits.specs.declared.Listing.the-variants.{Done, More}
-use Rattle.hits.specs.InnerList.{ListsFrom}
-use Rattle.walk.specs.InnerWalk.{Leads, Stands, Walking, NextLine}
+use Rattle.hits.specs.Inner.{ListsFrom}
+use Rattle.walk.specs.Inner.{Leads, Stands, Walking, NextLine}
 use Rattle.search.proofs.Cells.{Points, rows-le, point-hit, hit-point, missed, own-line, inside-cells}
 use Rattle.walk.proofs.Walks.{apart-by, fits-at}
 use Rattle.hits.proofs.Kept.{Kept, kept-over, kept-end, kept-write, kept-more, kept-done}

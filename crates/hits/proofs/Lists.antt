@@ -12,7 +12,7 @@ use Rattle.scope.proofs.Judged.{Passes}
 use Rattle.scope.proofs.Limits.{passes-first, passes-then, passes-when, valid-run, valid-source}
 use borrow.Author.Tests.{leb-false}
 use Rattle.hits.specs.Promise.{first, firstHitTests}
-use Rattle.search.specs.InnerSearch.{FirstFrom}
+use Rattle.search.specs.Inner.{FirstFrom}
 
 -- what a call that no test stops may go by
 pub record Allowed (run : Run) (source : Source) (start : RunCell) : Type 0 where

@@ -1,4 +1,4 @@
 pub mod Promise
 pub mod Proposition
-pub mod InnerList
+pub mod Inner
 pub mod Table

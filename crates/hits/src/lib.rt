@@ -8,9 +8,9 @@ ghost use mathlib.Core.Path.{_≡_};
 ghost use Prim.Native.Nat.{_<_};
 ghost use Rattle.scope.specs.Run.{ValidRun, ValidSource, cellsOf};
 ghost use Rattle.scope.specs.Refusal.{complaint};
-ghost use Rattle.scope.specs.InnerVerdict.{verdict};
+ghost use Rattle.scope.specs.Inner.{verdict};
 ghost use Rattle.hits.specs.Promise.{firstHitTests, FirstHitPromise, ListingPromise};
-ghost use Rattle.hits.specs.InnerList.{ListsFrom};
+ghost use Rattle.hits.specs.Inner.{ListsFrom};
 
 // The reply of the first-hit call.
 pub enum FirstHit {

@@ -19,7 +19,7 @@ use Rattle.scope.proofs.Numbering.{cell-order}
 use Rattle.scope.proofs.Hits.{hit-or-miss, one-hit-on-line}
 use Rattle.walk.specs.declared.Walk.{Walk}
 use Rattle.walk.specs.declared.LineHit.{LineHit}
-use Rattle.walk.specs.InnerWalk.{Stands, Walking, NextLine, Walks, Begun}
+use Rattle.walk.specs.Inner.{Stands, Walking, NextLine, Walks, Begun}
 use Rattle.walk.proofs.Walks.{out-true, out-false}
 use Rattle.map.specs.Sum.{capped}
 use Rattle.map.specs.Promise.{weightAt}

@@ -15,7 +15,7 @@ use Rattle.scope.specs.Refusal.{complaint}
 use Rattle.sources.specs.Entry.{Entry, entriesOf, listTests}
 use Rattle.walk.specs.declared.Walk.{Walk}
 use Rattle.walk.specs.declared.LineHit.{LineHit}
-use Rattle.walk.specs.InnerWalk.{Leads, Stands}
+use Rattle.walk.specs.Inner.{Leads, Stands}
 use Rattle.map.specs.Sum.{capped}
 use Rattle.map.specs.Promise.{weightAt}
 

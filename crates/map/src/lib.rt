@@ -12,7 +12,7 @@ ghost use mathlib.Core.List.{[], _∷_};
 ghost use Prim.Native.Nat.{min, _+_, _-_, _≤_, _<_, _^_};
 ghost use lib.ListN.{length};
 ghost use Rattle.scope.specs.Run.{ValidRun, ValidSource, ceiling, cellsOf};
-ghost use Rattle.scope.specs.InnerBlock.{IsBlock};
+ghost use Rattle.scope.specs.Inner.{IsBlock};
 ghost use Rattle.sources.specs.Entry.{entriesOf};
 ghost use Rattle.map.specs.Sum.{capped, raised};
 ghost use Rattle.map.specs.Promise.{added, MapPromise};

@@ -8,7 +8,7 @@ use lib.ListN.{length, take, drop, length-take}
 use lib.Seq.{length-take-le}
 use borrow.Author.Tests.{ltb-false}
 use Rattle.rooms.specs.Lists.{zeros}
-use Rattle.rooms.specs.InnerRooms.{Written}
+use Rattle.rooms.specs.Inner.{Written}
 use Rattle.rooms.proofs.Lists.{length-zeros, padded-within, padded-is, up-to}
 use Rattle.decimal.specs.Digits.{largest}
 use Rattle.words.proofs.Writing.{line-long}

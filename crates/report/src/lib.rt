@@ -10,7 +10,7 @@ ghost use mathlib.Core.Path.{_≡_};
 ghost use mathlib.Core.List.{[], _∷_, _++_};
 ghost use lib.ListN.{length};
 ghost use Rattle.rooms.specs.Lists.{zeros};
-ghost use Rattle.rooms.specs.InnerRooms.{Written};
+ghost use Rattle.rooms.specs.Inner.{Written};
 ghost use Rattle.words.specs.Line.{line};
 ghost use Rattle.scope.specs.Run.{ValidRun, ValidSource, cellsOf};
 ghost use Rattle.scope.specs.Hit.{hitsFrom};

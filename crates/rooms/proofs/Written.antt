@@ -9,7 +9,7 @@ use native.Mathlib.Omega.{arith}
 use lib.ListN.{length, take, drop, set, length-append, length-drop, take-append-drop}
 use lib.Seq.{length-take-le, take-at, drop-at, drop-drop, drop-length, set-split}
 use borrow.Rule.Slice.PartMut.{putMid, post-is}
-use Rattle.rooms.specs.InnerRooms.{Written}
+use Rattle.rooms.specs.Inner.{Written}
 
 -- to write nothing changes nothing
 pub written-none : (room : List ℕ) (at : ℕ) → at ≤ length room → Written room at [] at room

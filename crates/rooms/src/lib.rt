@@ -4,7 +4,7 @@ ghost use Prim.Native.Nat.{_+_, _≤_, min, max};
 ghost use mathlib.Core.Path.{_≡_};
 ghost use lib.ListN.{length, set};
 ghost use Rattle.rooms.specs.Lists.{zeros};
-ghost use Rattle.rooms.specs.InnerRooms.{Written};
+ghost use Rattle.rooms.specs.Inner.{Written};
 
 // Inner step. The same number in 64 bits.
 pub fn wide(byte: u8) -> u64

@@ -15,7 +15,7 @@ use Rattle.saved.specs.File.{firstJoined, laterFileBlocks, fileBlocksFor
 use Rattle.saved.specs.Inner.{manyBytes}
 use Rattle.rooms.proofs.Lists.{take-take-min, take-drop-take}
 use Rattle.fileblocks.proofs.FileBlock.{length-fileBlockOf}
-use Rattle.rooms.specs.InnerRooms.{Written}
+use Rattle.rooms.specs.Inner.{Written}
 use Rattle.rooms.proofs.Written.{written-none, written-part, written-length, written-all}
 
 -- a cell is one byte

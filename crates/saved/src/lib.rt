@@ -16,7 +16,7 @@ ghost use lib.ListN.{length, take};
 ghost use Rattle.scope.specs.Run.{ValidRun};
 ghost use Rattle.scope.specs.Refusal.{complaint};
 ghost use Rattle.scope.specs.Reply.{reply};
-ghost use Rattle.scope.specs.InnerVerdict.{verdict};
+ghost use Rattle.scope.specs.Inner.{verdict};
 ghost use Rattle.fileblocks.specs.FileBlock.{fileBlockBytes, fileBlockOf};
 ghost use Rattle.saved.specs.File.{heading, laterFileBlocks, fileBlocksFor, fileLength, bytesFor, runOf, bytesIn, headingTests, laterFileBlocksTests, fileTests};
 ghost use Rattle.saved.specs.Inner.{manyBytes};

@@ -6,7 +6,7 @@ use mathlib.Core.Option.{Option, some, none}
 use native.Mathlib.Omega.{arith}
 use Rattle.scope.specs.Refusal.{Reason, Window, Lines, Interval, Period, Remainder, WiderThanPeriod, Weight, Start, Room, Lists, Text, TooMany, FileBlocks, Check, Layout, call, listed, Complaint, Tests, _when_, _andThen_, ofSource, nothing, complaint, number}
 use Rattle.scope.specs.Reply.{refused, answered, reply, stored}
-use Rattle.scope.specs.InnerVerdict.{verdict}
+use Rattle.scope.specs.Inner.{verdict}
 use Rattle.scope.specs.declared.Verdict.{Verdict}
 use Rattle.scope.specs.declared.Verdict.the-variants.{Fine, Refused}
 

@@ -13,7 +13,7 @@ use Rattle.signed.proofs.Parts.{up, parts, apart, sum, neg-up, neg-dn}
 use Rattle.scope.specs.declared.Run.{Run}
 use Rattle.scope.specs.Run.{ValidRun, linesOf, cellsOf, cellOf, lineOf, offsetOf, Before, shiftOf}
 pub use Rattle.scope.specs.Run.{InRun}
-pub use Rattle.scope.specs.InnerBlock.{IsBlock}
+pub use Rattle.scope.specs.Inner.{IsBlock}
 use Rattle.scope.proofs.Limits.{halves}
 
 -- ---- cells, and offsets of lines

@@ -3,10 +3,9 @@ use Prim.Native.Nat.{ℕ}
 use mathlib.Core.Path.{_≡_, refl}
 use mathlib.Core.Option.{Option, some, none}
 use Rattle.scope.specs.Refusal.{Complaint, Tests, _andThen_, ofSource, orElse, placed, complaint}
-use Rattle.scope.specs.InnerVerdict.{verdict}
+use Rattle.scope.specs.Inner.{verdict, firstOf}
 use Rattle.scope.specs.declared.Verdict.{Verdict}
 use Rattle.scope.specs.declared.Verdict.the-variants.{Fine, Refused}
-use Rattle.scope.specs.InnerVerdict.{firstOf}
 
 -- of two complaints
 verdict-or : (a b : Option Complaint) → verdict (orElse a b) ≡ firstOf (verdict a) (verdict b)

@@ -3,5 +3,4 @@ pub mod Hit
 pub mod Refusal
 pub mod Reply
 pub mod Table
-pub mod InnerVerdict
-pub mod InnerBlock
+pub mod Inner

@@ -3,9 +3,8 @@
 ghost use mathlib.Core.Path.{_≡_};
 ghost use Prim.Native.Nat.{_≤_};
 ghost use Rattle.scope.specs.Run.{ValidRun, cellsOf, shiftOf, toRun};
-ghost use Rattle.scope.specs.InnerBlock.{IsBlock, toBlock};
+ghost use Rattle.scope.specs.Inner.{IsBlock, toBlock, firstOf, verdict};
 ghost use Rattle.scope.specs.Refusal.{complaint, windowTests, lineTests, runTests, periodTests, sourceTests};
-ghost use Rattle.scope.specs.InnerVerdict.{firstOf, verdict};
 
 // What a weight, and a cell of a map, is at most: `ceiling` of the specs. A cell is as wide as this number.
 pub const CEILING: u8 = 255;

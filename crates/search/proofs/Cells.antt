@@ -17,12 +17,12 @@ use Rattle.scope.proofs.Numbering.{line-at, distance-at}
 use Rattle.scope.proofs.Hits as scope
 use Rattle.scope.proofs.Hits.{origin, hit-on, miss-on}
 use Rattle.vectors.specs.declared.Turn.{Turn}
-use Rattle.vectors.specs.InnerSequence.{firstTwo, Successive}
+use Rattle.vectors.specs.Inner.{firstTwo, Successive}
 use Rattle.vectors.proofs.Found.{first-two, start-left}
 use Rattle.vectors.proofs.Sequence.{size-of}
 use Rattle.search.specs.declared.Point.{Point}
 use Rattle.search.specs.declared.Found.the-variants.{Nothing}
-use Rattle.search.specs.InnerSearch.{Seeking, PointOf, FirstRight, FirstFrom, Enters, Sought}
+use Rattle.search.specs.Inner.{Seeking, PointOf, FirstRight, FirstFrom, Enters, Sought}
 
 -- ---- cells by lines and distances
 

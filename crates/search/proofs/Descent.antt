@@ -12,12 +12,12 @@ use Rattle.lattice.proofs.Stage.{Side, left, right, Stage, ended, bounds}
 use Rattle.lattice.proofs.First.{first-here, first-after}
 use Rattle.lattice.proofs.Transitions.{last-never, jump-right, jump-left, turn-right, turn-left, moved}
 use Rattle.vectors.specs.declared.Vector.{Vector}
-use Rattle.vectors.specs.InnerSequence.{nextOf, Successive, Division}
+use Rattle.vectors.specs.Inner.{nextOf, Successive, Division}
 use Rattle.vectors.proofs.Sequence.{later, staged, side-left, side-right}
 use Rattle.search.specs.declared.Point.{Point}
 use Rattle.search.specs.declared.Found.{Found}
 use Rattle.search.specs.declared.Found.the-variants.{At, Nothing}
-use Rattle.search.specs.InnerSearch.{Approaching, Nearer, Seeking, Sought}
+use Rattle.search.specs.Inner.{Approaching, Nearer, Seeking, Sought}
 
 -- ---- a point nearer to the window
 

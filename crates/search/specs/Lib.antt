@@ -1,1 +1,1 @@
-pub mod InnerSearch
+pub mod Inner

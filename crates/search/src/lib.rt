@@ -12,8 +12,8 @@ ghost use Prim.Native.Nat.{ℕ, _+_, _-_, _*_, _%_, _≤_, _<_};
 ghost use Rattle.lattice.proofs.Multiples.{Above};
 ghost use Rattle.scope.specs.Run.{ValidRun, ValidSource, cellsOf};
 ghost use Rattle.scope.proofs.Hits.{origin};
-ghost use Rattle.vectors.specs.InnerSequence.{Successive};
-ghost use Rattle.search.specs.InnerSearch.{Approaching, Nearer, Seeking, Sought, PointOf, FirstRight, FirstFrom};
+ghost use Rattle.vectors.specs.Inner.{Successive};
+ghost use Rattle.search.specs.Inner.{Approaching, Nearer, Seeking, Sought, PointOf, FirstRight, FirstFrom};
 
 // A point of a source: its distance from the window's left edge, to the right, and its line.
 pub struct Point {

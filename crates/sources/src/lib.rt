@@ -8,7 +8,7 @@ ghost use lib.ListN.{length};
 ghost use Rattle.sources.specs.Entry.{entriesOf, entryTests, listTests};
 ghost use Rattle.scope.specs.Run.{ceiling};
 ghost use Rattle.scope.specs.Refusal.{complaint, weightTests};
-ghost use Rattle.scope.specs.InnerVerdict.{verdict};
+ghost use Rattle.scope.specs.Inner.{verdict};
 
 // What 01's table says of a weight.
 fn judge_weight(weight: u32) -> Verdict

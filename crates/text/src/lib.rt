@@ -7,7 +7,7 @@ ghost use mathlib.Core.Path.{_≡_};
 ghost use lib.Dec.{ltb};
 ghost use lib.ListN.{length};
 ghost use Rattle.scope.specs.Refusal.{_when_, TooMany, complaint};
-ghost use Rattle.scope.specs.InnerVerdict.{verdict};
+ghost use Rattle.scope.specs.Inner.{verdict};
 ghost use Rattle.text.specs.Promise.{mostSources, refusal, TextPromise};
 ghost use Rattle.text.specs.Inner.{SourceAt, SourcesAt, LinesAt, runOf};
 

@@ -11,8 +11,7 @@ use Rattle.lattice.proofs.Pair.{Paired, paired}
 use Rattle.lattice.proofs.Stage.{Side, left, right, other, ended, start}
 use Rattle.vectors.specs.declared.Vector.{Vector}
 use Rattle.vectors.specs.declared.Turn.{Turn}
-use Rattle.vectors.specs.InnerBasis.{Askable}
-use Rattle.vectors.specs.InnerSequence.{partnerOf, Moves, Successive, Ready, Stopped, Open}
+use Rattle.vectors.specs.Inner.{ValidSpan, partnerOf, Moves, Successive, Ready, Stopped, Open}
 use Rattle.vectors.specs.Vectors.{IsPair, IsSingle}
 use Rattle.vectors.proofs.Bridge.{leftward, rightward, from-magnitudes}
 use Rattle.vectors.proofs.Sequence.{size-of, moved, some-size, side-left, side-right}
@@ -34,7 +33,7 @@ first-two {p} {r} h = record {
   last = record { offset = refl; line = refl };
 }
 
-pub begin : {p r I : ℕ} → Askable p r I → Ready I (leftward p 0) (rightward r 1)
+pub begin : {p r I : ℕ} → ValidSpan p r I → Ready I (leftward p 0) (rightward r 1)
 begin {p} h = record {
   division = record { p = _; r = _; at = first-two (h .remainder); small = h .small };
   width = h .some;

@@ -15,7 +15,7 @@ use Rattle.lattice.proofs.Multiples.{rest}
 use Rattle.lattice.proofs.Stage.{Side, left, right, other, Stage, bounds, slide-bound}
 use Rattle.lattice.proofs.Stage as Stage
 use Rattle.vectors.specs.declared.Vector.{Vector}
-use Rattle.vectors.specs.InnerSequence.{plusTimes, nextOf, alongside, toward, Moves, Successive, Division, Reaches, Ready, Open}
+use Rattle.vectors.specs.Inner.{plusTimes, nextOf, alongside, toward, Moves, Successive, Division, Reaches, Ready, Open}
 
 abs-toward : (s : Side) (n : ℕ) → natAbs (toward s n) ≡ n
 abs-toward left zero = refl

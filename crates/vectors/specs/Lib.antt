@@ -1,5 +1,4 @@
 pub mod Vectors
 pub mod Promise
-pub mod InnerSequence
-pub mod InnerBasis
+pub mod Inner
 pub mod Table

@@ -8,8 +8,7 @@ ghost use mathlib.Core.Path.{_≡_};
 ghost use Prim.Native.Nat.{_<_, _^_};
 ghost use Rattle.vectors.specs.Vectors.{vector};
 ghost use Rattle.vectors.specs.Promise.{VectorsPromise};
-ghost use Rattle.vectors.specs.InnerBasis.{Askable, Spans};
-ghost use Rattle.vectors.specs.InnerSequence.{turn, firstTwo, alongside, Reaches, plusTimes, nextOf, partnerOf, Ready, Divided, Open};
+ghost use Rattle.vectors.specs.Inner.{ValidSpan, Spans, turn, firstTwo, alongside, Reaches, plusTimes, nextOf, partnerOf, Ready, Divided, Open};
 
 // A vector of the lattice: so many ticks of offset, to the right or (below 0) to the left, and so many lines on.
 pub struct Vector {
@@ -154,7 +153,7 @@ fn partner(before: Vector, last: Vector, window: u64) -> Vector
 // The division sequence of (-p, 0) and (r, 1) is stopped at the first vector within the window. Where its offset is 0,
 // the one before it moves by gcd(r, p), at least the window, and no pair exists.
 pub fn find_basis(period: u32, remainder: u32, window: u32) -> Basis
-    requires { ⌜ Askable period remainder window ⌝ }
+    requires { ⌜ ValidSpan period remainder window ⌝ }
     ensures { λ r. ⌜ Spans period remainder window r ⌝ }
 {
     let start = first_two(period, remainder);

@@ -12,7 +12,7 @@ use Rattle.lattice.proofs.Next.{next-left, next-right, next-both, next-single}
 use Rattle.lattice.proofs.Pair.{Pair, extent}
 use Rattle.vectors.specs.declared.Vector.{Vector}
 use Rattle.vectors.specs.Vectors.{IsPair, IsSingle}
-use Rattle.vectors.specs.InnerBasis.{Askable}
+use Rattle.vectors.specs.Inner.{ValidSpan}
 use Rattle.vectors.proofs.Bridge.{magnitudes}
 use Rattle.scope.specs.declared.Run.{Run}
 use Rattle.scope.specs.declared.Source.{Source}
@@ -20,10 +20,10 @@ use Rattle.scope.specs.Run.{ValidRun, ValidSource, cellsOf, lineOf, offsetOf}
 use Rattle.scope.specs.Hit.{isHit}
 use Rattle.scope.proofs.Numbering.{line-at, distance-at}
 use Rattle.walk.specs.declared.Walk.{Walk}
-use Rattle.walk.specs.InnerWalk.{Short, GoesBy, Leads, Stands, Begun, Begins, width}
+use Rattle.walk.specs.Inner.{Short, GoesBy, Leads, Stands, Begun, Begins, width}
 use Rattle.search.specs.declared.Point.{Point}
 use Rattle.search.specs.declared.Found.the-variants.{Nothing}
-use Rattle.search.specs.InnerSearch.{PointOf, Enters, Sought}
+use Rattle.search.specs.Inner.{PointOf, Enters, Sought}
 use Rattle.search.proofs.Cells.{hit-point, point-hit, point-low, sought-cell, sought-none}
 use Rattle.walk.proofs.Walks.{first-point}
 
@@ -84,7 +84,7 @@ module _ {run : Run} (v : ValidRun run) {source : Source} (s : ValidSource sourc
 -- ---- the vectors
 
 -- a window as wide as the run's or as the period
-pub askable : {run : Run} {source : Source} → ValidRun run → ValidSource source → Askable (source .period) (run .interval % source .period) (width run source)
+pub askable : {run : Run} {source : Source} → ValidRun run → ValidSource source → ValidSpan (source .period) (run .interval % source .period) (width run source)
 askable {run} {source} v s = record {
   remainder = mod-lt (run .interval) (s .ticks);
   some = omega (arith, v .narrow, s .ticks);

@@ -25,7 +25,7 @@ use Rattle.scope.proofs.Numbering.{line-at, distance-at}
 use Rattle.walk.specs.declared.Step.{Step}
 use Rattle.walk.specs.declared.LineHit.{LineHit}
 use Rattle.walk.specs.declared.Walk.{Walk}
-use Rattle.walk.specs.InnerWalk.{Movable, Moved, Leads, Stands, Walking, NextLine, width}
+use Rattle.walk.specs.Inner.{Movable, Moved, Leads, Stands, Walking, NextLine, width}
 use Rattle.search.proofs.Cells.{Points, rows-le, hit-point, miss-point, point-hit, way, arrive}
 
 -- the first point of a line, from any of its points

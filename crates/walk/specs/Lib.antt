@@ -1,1 +1,1 @@
-pub mod InnerWalk
+pub mod Inner

@@ -11,7 +11,7 @@ ghost use mathlib.Core.Path.{_≡_};
 ghost use Prim.Native.Nat.{_+_, _*_, _/_, _≤_, _<_, _^_, min};
 ghost use lib.IntN.{pos, _+ℤ_, _-ℤ_};
 ghost use Rattle.scope.specs.Run.{ValidRun, ValidSource, cellsOf};
-ghost use Rattle.walk.specs.InnerWalk.{Short, Joinable, GoesBy, Begun, Begins, Leads, Movable, Moved, Walking, Walks};
+ghost use Rattle.walk.specs.Inner.{Short, Joinable, GoesBy, Begun, Begins, Leads, Movable, Moved, Walking, Walks};
 
 // A step of the walk: so many ticks of offset, so many cells on.
 pub struct Step {

@@ -9,7 +9,7 @@ use lib.Seq.{drop-cons}
 use Rattle.rooms.specs.Lists.{UpTo}
 use Rattle.decimal.specs.Digits.{largest, digits}
 use Rattle.decimal.proofs.Laws.{length-32}
-use Rattle.rooms.specs.InnerRooms.{Written}
+use Rattle.rooms.specs.Inner.{Written}
 use Rattle.words.specs.Line.{fields, line}
 use Rattle.rooms.proofs.Written.{written-append, written-length}
 use Rattle.rooms.proofs.Writing.{Writing, writing-starts, writing-more, writing-last, piece-fits}

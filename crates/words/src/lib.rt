@@ -3,7 +3,7 @@
 use decimal::Number;
 ghost use Prim.Native.Nat.{_+_, _≤_};
 ghost use lib.ListN.{length};
-ghost use Rattle.rooms.specs.InnerRooms.{Written};
+ghost use Rattle.rooms.specs.Inner.{Written};
 ghost use Rattle.words.specs.Line.{line};
 ghost use Rattle.words.specs.Inner.{WordAt, FieldAt, LineAt};
 

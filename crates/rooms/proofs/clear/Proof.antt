@@ -5,7 +5,7 @@ use native.Mathlib.Omega.{arith}
 use mathlib.Core.Path.{_≡_, _∙_, ap}
 use lib.ListN.{length, replicate-append-replicate}
 use Rattle.rooms.specs.Lists.{zeros}
-use Rattle.rooms.specs.InnerRooms.{Written}
+use Rattle.rooms.specs.Inner.{Written}
 use Rattle.rooms.proofs.Written.{written-none, written-more, written-length, written-all}
 use Rattle.rooms.proofs.clear.Statement.{statement}
 use Rattle.rooms.proofs.clear.Tie as tie

@@ -6,7 +6,7 @@ use native.Mathlib.Numerals.{add-one}
 use mathlib.Core.Path.{_≡_, _∙_, ap}
 use lib.ListN.{length, take}
 use lib.Seq.{take-suc, take-length}
-use Rattle.rooms.specs.InnerRooms.{Written}
+use Rattle.rooms.specs.Inner.{Written}
 use Rattle.rooms.proofs.Written.{written-none, written-more, written-length, written-all}
 use Rattle.rooms.proofs.copy.Statement.{statement}
 use Rattle.rooms.proofs.copy.Tie as tie

@@ -11,7 +11,7 @@ use lib.ListN.{length}
 use Rattle.scope.specs.Run.{ValidRun}
 use Rattle.scope.specs.Refusal.{Tests, _when_, _andThen_, FileBlocks, number, complaint, runTests}
 use Rattle.scope.specs.Reply.{answered}
-use Rattle.scope.specs.InnerVerdict.{verdict}
+use Rattle.scope.specs.Inner.{verdict}
 use Rattle.scope.proofs.Judged.{Passes, broken, sound, first, then, both, fine, blamed, refuse-reply, grant-reply}
 use Rattle.scope.proofs.Limits.{valid-run, cells-few}
 use Rattle.fileblocks.specs.FileBlock.{fileBlockBytes}

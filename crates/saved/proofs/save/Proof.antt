@@ -15,7 +15,7 @@ use Rattle.scope.proofs.Limits.{valid-run, cells-few}
 use Rattle.fileblocks.specs.FileBlock.{fileBlockBytes, fileBlockOf}
 use Rattle.saved.specs.File.{heading, laterFileBlocks, fileBlocksFor, fileLength, bytesFor, fileOf, savingTests}
 use Rattle.saved.specs.Inner.{manyBytes}
-use Rattle.rooms.specs.InnerRooms.{Written}
+use Rattle.rooms.specs.Inner.{Written}
 use Rattle.rooms.proofs.Written.{written-none, written-part, written-length, written-all}
 use Rattle.fileblocks.proofs.FileBlock.{length-fileBlockOf}
 use Rattle.saved.proofs.Cells.{cell-bytes, length-laterFileBlocks}

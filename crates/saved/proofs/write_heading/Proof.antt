@@ -11,7 +11,7 @@ use Rattle.fileblocks.specs.FileBlock.{four, fileBlockOf}
 use Rattle.saved.specs.File.{heading}
 use Rattle.fileblocks.proofs.FileBlock.{length-four}
 use Rattle.saved.proofs.Heading.{length-heading}
-use Rattle.rooms.specs.InnerRooms.{Written}
+use Rattle.rooms.specs.Inner.{Written}
 use Rattle.rooms.proofs.Written.{written-part, written-length, written-all}
 use Rattle.saved.proofs.write_heading.Statement.{statement}
 use Rattle.saved.proofs.write_heading.Tie as tie

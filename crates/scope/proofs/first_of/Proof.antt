@@ -1,6 +1,6 @@
 -- `scope::first_of` meets its contract, case by case. Assumes nothing.
 use borrow.Author.Needs.{needs}
-use Rattle.scope.specs.InnerVerdict.{firstOf}
+use Rattle.scope.specs.Inner.{firstOf}
 use Rattle.scope.proofs.first_of.Statement.{statement}
 use Rattle.scope.proofs.first_of.Tie as tie
 

@@ -1,7 +1,7 @@
 -- `search::enter` meets its contract: the search begins at the start of the division sequence. Assumes nothing.
 use borrow.Author.Needs.{needs}
 use Prim.Native.Nat.{_%_}
-use Rattle.vectors.specs.InnerSequence.{Successive}
+use Rattle.vectors.specs.Inner.{Successive}
 use Rattle.search.proofs.Cells.{begin-divides, begin-seeking}
 use Rattle.search.proofs.enter.Statement.{statement}
 use Rattle.search.proofs.enter.Tie as tie

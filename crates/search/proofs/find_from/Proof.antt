@@ -4,7 +4,7 @@ use Prim.Native.Nat.{_+_, _-_, _*_, _%_}
 use native.Mathlib.Omega.{arith}
 use mathlib.Core.Path.{subst}
 use Rattle.scope.proofs.Limits.{cells-few}
-use Rattle.search.specs.InnerSearch.{Enters, FirstFrom, Sought}
+use Rattle.search.specs.Inner.{Enters, FirstFrom, Sought}
 use Rattle.search.proofs.Cells.{point-low, sought-cell, sought-none}
 use Rattle.search.proofs.find_from.Statement.{statement}
 use Rattle.search.proofs.find_from.Tie as tie

@@ -5,7 +5,7 @@ use native.Mathlib.Nat.{mod-lt, mod-le}
 use Prim.Native.Nat.{ℕ, _+_, _-_, _/_, _%_, _≤_}
 use mathlib.Core.Path.{_∙_}
 use Rattle.scope.proofs.Limits.{cells-few}
-use Rattle.search.specs.InnerSearch.{FirstFrom}
+use Rattle.search.specs.Inner.{FirstFrom}
 use Rattle.search.proofs.Cells.{distance-low, distance-next, own-line, rest-found, rest-none}
 use Rattle.search.proofs.find_hit.Statement.{statement}
 use Rattle.search.proofs.find_hit.Tie as tie

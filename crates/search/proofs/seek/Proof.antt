@@ -7,12 +7,12 @@ use mir.Syntax.{w64}
 use mir.Val.{toZ, ofZ}
 use mir.Facts.{toZ-ofZ}
 use Rattle.vectors.specs.declared.Vector.{Vector}
-use Rattle.vectors.specs.InnerSequence.{Successive}
+use Rattle.vectors.specs.Inner.{Successive}
 use Rattle.vectors.proofs.Sequence.{onward, later, falls, some-size, held-last, goes}
 use Rattle.search.specs.declared.Point.{Point}
 use Rattle.search.specs.declared.Found.{Found}
 use Rattle.search.specs.declared.Found.the-variants.{At, Nothing}
-use Rattle.search.specs.InnerSearch.{Seeking, Sought}
+use Rattle.search.specs.Inner.{Seeking, Sought}
 use Rattle.search.proofs.Descent.{approaching, seeking, sought-past, sought-here, sought-never, sought-on}
 use Rattle.search.proofs.seek.Statement.{statement}
 use Rattle.search.proofs.seek.Tie as tie

@@ -8,12 +8,11 @@ use mathlib.Core.List.{List}
 use Prim.Native.Nat.{ℕ, suc, _≤_, _<_, _-_, _+_}
 use lib.ListN.{length, getD, drop, drop-of-length-le}
 use Rattle.scope.specs.Refusal.{complaint}
-use Rattle.scope.specs.InnerVerdict.{verdict}
+use Rattle.scope.specs.Inner.{verdict, firstOf}
 use Rattle.scope.specs.declared.Verdict.{Verdict}
 use Rattle.scope.specs.declared.Verdict.the-variants.{Fine}
 use Rattle.scope.specs.Run.{ceiling}
 use Rattle.sources.specs.Entry.{entriesOf, entryTests, listTests}
-use Rattle.scope.specs.InnerVerdict.{firstOf}
 use Rattle.sources.proofs.Entries.{entry, entries-from}
 use Rattle.scope.proofs.Verdicts.{verdict-then, verdict-source, first-of-three, first-alone}
 use Rattle.sources.proofs.judge_entries.Statement.{statement}

@@ -10,7 +10,7 @@ use lib.Seq.{length-take-le}
 use Rattle.rooms.specs.Lists.{zeros}
 use Rattle.scope.specs.Run.{ceiling, cellsOf}
 use Rattle.scope.specs.Refusal.{_when_, _andThen_, TooMany, complaint, number, runTests}
-use Rattle.scope.specs.InnerVerdict.{verdict}
+use Rattle.scope.specs.Inner.{verdict}
 use Rattle.scope.proofs.Judged.{Passes, Fails, broken, sound, first, then, both, fine, blamed}
 use Rattle.scope.proofs.Limits.{passes-when, passes-first, passes-then, valid-run}
 use Rattle.sources.specs.Entry.{entriesOf, listTests}

@@ -8,7 +8,7 @@ use mir.Val.{toZ, ofZ}
 use mir.Facts.{toZ-ofZ}
 use borrow.Fn.Kinds.{In}
 use borrow.Fn.PlainCycle.{Measures, is, falls, and}
-use Rattle.vectors.specs.InnerSequence.{nextOf}
+use Rattle.vectors.specs.Inner.{nextOf}
 use Rattle.vectors.proofs.Sequence as Sequence
 use Rattle.vectors.proofs.divide.Reads as divide
 use Rattle.vectors.proofs.divide.Kinds as divide-kinds

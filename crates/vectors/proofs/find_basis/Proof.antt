@@ -5,7 +5,7 @@ use borrow.Author.Needs.{needs}
 use mir.Syntax.{w64}
 use mir.Val.{SFits, toZ, ofZ}
 use mir.Facts.{toZ-ofZ}
-use Rattle.vectors.specs.InnerSequence.{Stopped, Open}
+use Rattle.vectors.specs.Inner.{Stopped, Open}
 use Rattle.vectors.proofs.Found.{begin, first-two, single, pair-left, pair-right, partner-left}
 use Rattle.vectors.proofs.Sequence.{held-last}
 use Rattle.vectors.proofs.find_basis.Statement.{statement}

@@ -4,7 +4,7 @@ use Prim.Native.Nat.{_/_}
 use borrow.Author.Needs.{needs}
 use lib.IntN.{natAbs}
 use mir.Facts.{toZ-ofZ}
-use Rattle.vectors.specs.InnerSequence.{plusTimes}
+use Rattle.vectors.specs.Inner.{plusTimes}
 use Rattle.vectors.proofs.Sequence.{Fitting, fitting, reaches-next}
 use Rattle.vectors.proofs.next.Statement.{statement}
 use Rattle.vectors.proofs.next.Tie as tie

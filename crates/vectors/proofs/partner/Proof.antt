@@ -5,7 +5,7 @@ use borrow.Author.Needs.{needs}
 use native.Mathlib.Omega.{arith}
 use lib.IntN.{natAbs}
 use mir.Facts.{toZ-ofZ}
-use Rattle.vectors.specs.InnerSequence.{plusTimes}
+use Rattle.vectors.specs.Inner.{plusTimes}
 use Rattle.vectors.proofs.Sequence.{fitting, reaches-partner, held-before}
 use Rattle.vectors.proofs.partner.Statement.{statement}
 use Rattle.vectors.proofs.partner.Tie as tie

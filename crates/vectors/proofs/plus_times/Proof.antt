@@ -5,7 +5,7 @@ use borrow.Author.Needs.{needs}
 use native.Mathlib.Omega.{arith}
 use lib.IntN.{natAbs}
 use mir.Facts.{toZ-ofZ}
-use Rattle.vectors.specs.InnerSequence.{plusTimes, alongside}
+use Rattle.vectors.specs.Inner.{plusTimes, alongside}
 use Rattle.vectors.proofs.Sequence.{Fitting, fitting, same-side}
 use Rattle.vectors.proofs.plus_times.Statement.{statement}
 use Rattle.vectors.proofs.plus_times.Tie as tie

@@ -12,7 +12,7 @@ use Rattle.scope.proofs.Judged.{Fails, Passes, broken, sound, first, then, both
 use Rattle.scope.proofs.Limits.{passes-first, passes-then, valid-window, valid-source}
 use Rattle.vectors.specs.Vectors.{Values}
 use Rattle.vectors.specs.Promise.{Admits, VectorsPromise, vectorsTests}
-use Rattle.vectors.specs.InnerBasis.{Spans}
+use Rattle.vectors.specs.Inner.{Spans}
 use Rattle.vectors.proofs.step_vectors.Statement.{statement}
 use Rattle.vectors.proofs.step_vectors.Tie as tie
 

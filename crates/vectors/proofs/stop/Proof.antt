@@ -3,7 +3,7 @@ use borrow.Author.Needs.{needs}
 use Prim.Native.Nat.{ℕ}
 use mir.Facts.{toZ-ofZ}
 use Rattle.vectors.specs.Vectors.{vector}
-use Rattle.vectors.specs.InnerSequence.{turn, Successive, Division, Stopped}
+use Rattle.vectors.specs.Inner.{turn, Successive, Division, Stopped}
 use Rattle.vectors.proofs.Sequence.{held-before, held-last}
 use Rattle.vectors.proofs.stop.Statement.{statement}
 use Rattle.vectors.proofs.stop.Tie as tie

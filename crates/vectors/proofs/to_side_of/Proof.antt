@@ -7,7 +7,7 @@ use lib.IntN.{ℤ, pos, negsuc, negℤ}
 use lib.Signed.{ltZ}
 use mir.Facts.{toZ-ofZ}
 use Rattle.signed.proofs.Parts.{parts}
-use Rattle.vectors.specs.InnerSequence.{alongside}
+use Rattle.vectors.specs.Inner.{alongside}
 use Rattle.vectors.proofs.Sequence.{turned}
 use Rattle.vectors.proofs.to_side_of.Statement.{statement}
 use Rattle.vectors.proofs.to_side_of.Tie as tie

@@ -5,7 +5,7 @@ use Prim.Native.Nat.{_+_, _-_, _*_, _/_, _%_, _<_, _^_}
 use mathlib.Core.Path.{refl, subst, _∙_}
 use mir.Facts.{toZ-ofZ}
 use Rattle.scope.proofs.Limits.{cells-few}
-use Rattle.search.specs.InnerSearch.{PointOf, Enters, Sought}
+use Rattle.search.specs.Inner.{PointOf, Enters, Sought}
 use Rattle.search.proofs.Cells.{point-low, sought-cell}
 use Rattle.walk.proofs.Walks.{fits-at}
 use Rattle.walk.proofs.Plans.{begun-at, begun-none}

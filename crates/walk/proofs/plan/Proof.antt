@@ -3,9 +3,9 @@ use borrow.Author.Needs.{needs}
 use native.Mathlib.Omega.{arith}
 use Prim.Native.Nat.{_%_}
 use mathlib.Core.Path.{subst}
-use Rattle.vectors.specs.InnerBasis.{Spans}
+use Rattle.vectors.specs.Inner.{Spans}
 use Rattle.vectors.specs.Vectors.{IsPair, IsSingle}
-use Rattle.walk.specs.InnerWalk.{width}
+use Rattle.walk.specs.Inner.{width}
 use Rattle.walk.proofs.Plans.{askable, left-small, right-small, pair-leads, single-small, single-leads}
 use Rattle.walk.proofs.plan.Statement.{statement}
 use Rattle.walk.proofs.plan.Tie as tie

@@ -10,7 +10,7 @@ use mir.Val.{SFits}
 use mir.Facts.{toZ-ofZ, toZ-pos, fits-natAbs}
 use Rattle.signed.proofs.Parts.{parts, sum, apart, neg-up, neg-dn, abs-parts}
 use Rattle.vectors.specs.declared.Vector.{Vector}
-use Rattle.walk.specs.InnerWalk.{Short}
+use Rattle.walk.specs.Inner.{Short}
 use Rattle.walk.proofs.step_of.Statement.{statement}
 use Rattle.walk.proofs.step_of.Tie as tie
 

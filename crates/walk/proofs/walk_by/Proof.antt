@@ -11,7 +11,7 @@ use mir.Val.{SFits}
 use mir.Facts.{toZ-ofZ}
 use Rattle.signed.proofs.Parts.{parts, sum, apart, neg-up, neg-dn}
 use Rattle.vectors.specs.declared.Vector.{Vector}
-use Rattle.walk.specs.InnerWalk.{Short}
+use Rattle.walk.specs.Inner.{Short}
 use Rattle.walk.proofs.Walks.{near, near-fits}
 use Rattle.walk.proofs.walk_by.Statement.{statement}
 use Rattle.walk.proofs.walk_by.Tie as tie

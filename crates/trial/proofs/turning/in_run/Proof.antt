@@ -4,7 +4,7 @@ use native.Mathlib.Omega.{arith}
 use mathlib.Core.Path.{refl, ap}
 use Rattle.scope.specs.declared.Run.{Run}
 use Rattle.scope.specs.declared.BlockCell.{BlockCell}
-use Rattle.scope.specs.InnerBlock.{IsBlock}
+use Rattle.scope.specs.Inner.{IsBlock}
 use Rattle.scope.proofs.Judged.{fine}
 use Rattle.scope.proofs.Limits.{valid-run}
 use Rattle.scope.proofs.Numbering.{shift-first}

@@ -4,7 +4,7 @@ use mathlib.Core.Path.{refl}
 use mir.Facts.{toZ-ofZ}
 use Rattle.walk.specs.declared.Step.{Step}
 use Rattle.walk.specs.declared.LineHit.{LineHit}
-use Rattle.walk.specs.InnerWalk.{Movable}
+use Rattle.walk.specs.Inner.{Movable}
 use Rattle.walk.proofs.Walks.{Sums, sums}
 use Rattle.walk.proofs.LineHit.moved.Statement.{statement}
 use Rattle.walk.proofs.LineHit.moved.Tie as tie

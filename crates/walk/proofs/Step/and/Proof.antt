@@ -3,7 +3,7 @@ use borrow.Author.Needs.{needs}
 use mathlib.Core.Path.{refl}
 use mir.Facts.{toZ-ofZ}
 use Rattle.walk.specs.declared.Step.{Step}
-use Rattle.walk.specs.InnerWalk.{Joinable}
+use Rattle.walk.specs.Inner.{Joinable}
 use Rattle.walk.proofs.Walks.{Sums, sums, wider}
 use Rattle.walk.proofs.Step.and.Statement.{statement}
 use Rattle.walk.proofs.Step.and.Tie as tie

@@ -11,7 +11,7 @@ use Rattle.scope.specs.Run.{cellsOf}
 use Rattle.scope.specs.Hit.{isHit}
 use Rattle.scope.proofs.Hits.{origin}
 use Rattle.vectors.specs.declared.Vector.{Vector}
-use Rattle.vectors.specs.InnerSequence.{Division}
+use Rattle.vectors.specs.Inner.{Division}
 use Rattle.search.specs.declared.Point.{Point}
 use Rattle.search.specs.declared.Found.{Found}
 use Rattle.search.specs.declared.Found.the-variants.{At, Nothing}

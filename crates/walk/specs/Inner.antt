@@ -10,7 +10,7 @@ use Rattle.scope.specs.declared.Source.{Source}
 use Rattle.scope.specs.Run.{ValidRun, ValidSource, cellsOf, lineOf, offsetOf}
 use Rattle.scope.specs.Hit.{isHit}
 use Rattle.vectors.specs.declared.Vector.{Vector}
-use Rattle.search.specs.InnerSearch.{FirstFrom}
+use Rattle.search.specs.Inner.{FirstFrom}
 use Rattle.walk.specs.declared.Step.{Step}
 use Rattle.walk.specs.declared.LineHit.{LineHit}
 use Rattle.walk.specs.declared.Walk.{Walk}

@@ -1,12 +1,14 @@
--- Document 01, "The sequence of 002", two successive vectors u and v at a time: what the inner steps of
--- `find_basis` and of the search for the first hit go by.
+-- Document 01, "The sequence of 002", two successive vectors u and v at a time: what the inner steps of `find_basis` and of the
+-- search for the first hit go by; and what `find_basis` is asked with and tells.
 use mathlib.Core.Path.{_≡_}
 use Prim.Native.Nat.{ℕ, _+_, _-_, _*_, _/_, _≤_, _<_}
 use lib.IntN.{ℤ, pos, negsuc, negℤ, natAbs, _+ℤ_, _*ℤ_}
 use Rattle.lattice.proofs.Stage.{Side, left, right, other, Stage}
 use Rattle.vectors.specs.declared.Vector.{Vector}
 use Rattle.vectors.specs.declared.Turn.{Turn}
-use Rattle.vectors.specs.Vectors.{vector}
+use Rattle.vectors.specs.Vectors.{vector, IsPair, IsSingle}
+use Rattle.vectors.specs.declared.Basis.{Basis}
+use Rattle.vectors.specs.declared.Basis.the-variants.{Two, One}
 
 -- Two successive vectors.
 abbrev pub turn : Vector → Vector → Turn
@@ -89,3 +91,15 @@ pub record Open (window : ℕ) (u v : Vector) : Type 0 where
   pub within : natAbs (v .offset) < window
   pub past : window ≤ natAbs (u .offset)
   pub some : 0 < natAbs (v .offset)
+
+-- It is asked with a remainder below the period and a window no wider than it.
+pub record ValidSpan (p r I : ℕ) : Type 0 where
+  pub remainder : r < p
+  pub some : 1 ≤ I
+  pub window : I ≤ p
+  pub small : p ≤ 2147483647
+
+-- What the basis has to be: the pair, or the single vector where there is no pair.
+abbrev pub Spans : ℕ → ℕ → ℕ → Basis → Type 0
+Spans p r I (Two u v) = IsPair p r I u v
+Spans p r I (One v) = IsSingle p r I v

@@ -1,0 +1,33 @@
+-- What the inner steps that judge a call's input answer: verdicts, and two of them one after the other; and what those ask for that
+-- go from a block to its run and back.
+use mathlib.Core.Option.{Option, some, none}
+use Rattle.scope.specs.Refusal.{Complaint, number}
+use Rattle.scope.specs.declared.Verdict.{Verdict}
+use Rattle.scope.specs.declared.Verdict.the-variants.{Fine, Refused}
+use Prim.Native.Nat.{_-_, _≤_}
+use mathlib.Core.Path.{_≡_}
+use Rattle.scope.specs.declared.Run.{Run}
+use Rattle.scope.specs.declared.RunCell.{RunCell}
+use Rattle.scope.specs.declared.BlockCell.{BlockCell}
+use Rattle.scope.specs.Run.{shiftOf}
+
+-- The first, unless it is fine: then the second.
+unfoldable pub firstOf : Verdict → Verdict → Verdict
+firstOf Fine second = second
+firstOf (Refused n) second = Refused n
+
+-- A verdict on a call's tests, or on some of them, as an answer of the code.
+abbrev pub verdict : Option Complaint → Verdict
+verdict none = Fine
+verdict (some c) = Refused (number (c .reason))
+
+-- "A block is a run with the same window and interval and a part of the lines."
+pub record IsBlock (run block : Run) : Type 0 where
+  pub window : block .window ≡ run .window
+  pub interval : block .interval ≡ run .interval
+  pub from : run .first ≤ block .first
+  pub to : block .last ≤ run .last
+
+-- ".. or taking away": the run's cell as the block's.
+abbrev pub toBlock : Run → Run → RunCell → BlockCell
+toBlock run block cell = record { 0 = cell .0 - shiftOf run block }
