@@ -1,4 +1,4 @@
--- UpTo a window of the pair's width every way is a sum of the pair's vectors, and so no second pair exists.
+-- Up to a window of the pair's width every way is a sum of the pair's vectors, and so no second pair exists.
 -- Assumes nothing.
 use mathlib.Core.Path.{_≡_, sym, ap}
 use mathlib.Core.Logic.{inl, ⊎-elim}
