@@ -1,17 +1,17 @@
 // First hit and listing, compared with the marked cells of a run.
-use crate::draw;
-use crate::draw::Case;
-use crate::numbers;
-use crate::reference;
-use crate::reference::Listed;
-use crate::reference::first_of;
-use crate::reference::when;
 use crate::turning;
 use hits::FirstHit;
 use hits::Listing;
 use scope::Run;
 use scope::RunCell;
 use scope::Source;
+use trying::draw;
+use trying::draw::Case;
+use trying::numbers;
+use trying::reference;
+use trying::reference::Listed;
+use trying::reference::first_of;
+use trying::reference::when;
 
 // What a room holds before a call. It is no cell of any run.
 const NO_CELL: u64 = 18446744073709551614;

@@ -2,20 +2,20 @@
 // every operation, against a walk over all cells, 01's layout of a file and its table of refusals.
 // Each line that it prints says how many cases of a kind were tried, and how many of them were bad. Every function is proved
 // safe and ending; that none is bad is what the stored output holds the program to.
-mod draw;
 mod figures;
 mod files;
 mod listing;
 mod mapping;
-mod numbers;
-mod reference;
 mod reports;
 mod steps;
-mod tally;
 mod texts;
 mod turning;
 
-use draw::Case;
+use trying::draw;
+use trying::draw::Case;
+use trying::numbers;
+use trying::reference;
+use trying::tally;
 
 const TURNS: u32 = 2000;
 

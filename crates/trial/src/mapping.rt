@@ -1,12 +1,12 @@
 // The map, compared with the walk over all cells.
-use crate::draw;
-use crate::draw::Case;
-use crate::numbers;
-use crate::reference;
-use crate::reference::first_of;
-use crate::reference::when;
 use map::Added;
 use scope::Run;
+use trying::draw;
+use trying::draw::Case;
+use trying::numbers;
+use trying::reference;
+use trying::reference::first_of;
+use trying::reference::when;
 
 // The number that the map call refuses with; 0 if it does not.
 fn says(reply: Added) -> u8 {

@@ -1,11 +1,11 @@
 // The step vectors, held against the conditions of 01.
-use crate::draw;
-use crate::draw::Case;
-use crate::numbers;
-use crate::reference;
-use crate::reference::first_of;
-use crate::reference::when;
 use signed::size;
+use trying::draw;
+use trying::draw::Case;
+use trying::numbers;
+use trying::reference;
+use trying::reference::first_of;
+use trying::reference::when;
 use vectors::Steps;
 use vectors::Vector;
 

@@ -1,64 +1,15 @@
 // Texts, written from a run and its sources, and read as just that, or refused.
-use crate::draw;
-use crate::draw::Case;
-use crate::numbers;
-use crate::reference;
-use crate::reference::first_of;
-use crate::reference::when;
 use crate::reports;
-use crate::tally;
 use scope::Run;
 use text::Answer;
-
-// Puts words at a position of a room, and answers the one after them.
-pub fn put_words(room: &mut [u8], at: usize, words: &[u8]) -> usize {
-    let size = words.len();
-    let start = at % 65536;
-    let mut k: usize = 0;
-    while k < size {
-        numbers::put_byte(room, std::num::wrapping_add_usize(start, k), words[k]);
-        k += 1;
-    }
-    std::num::wrapping_add_usize(start, size)
-}
-
-// Puts a space and a number.
-pub fn put_number(room: &mut [u8], at: usize, number: u32) -> usize {
-    let mut digits = [0u8; 20];
-    let next = put_words(room, at, b" ");
-    let count = io::decimal(number as u64, &mut digits);
-    put_words(room, next, &digits[..count])
-}
-
-// Puts the numbers of a run after its word.
-pub fn put_run(room: &mut [u8], run: Run) -> usize {
-    let a = put_words(room, 0, b"run");
-    let b = put_number(room, a, run.window);
-    let c = put_number(room, b, run.interval);
-    let d = put_number(room, c, run.first);
-    put_number(room, d, run.last)
-}
-
-// Puts a `src` line.
-fn put_source(room: &mut [u8], at: usize, period: u32, weight: u32) -> usize {
-    let a = put_words(room, at, b"src");
-    let b = put_number(room, a, period);
-    let c = put_number(room, b, weight);
-    put_words(room, c, b"\n")
-}
-
-// Puts the text of a run and its sources, and answers its end.
-pub fn put_text(room: &mut [u8], run: Run, periods: &[u32], weights: &[u32]) -> usize {
-    let count = periods.len();
-    let line = put_run(room, run);
-    let mut next = put_words(room, line, b"\n");
-    let mut k: usize = 0;
-    while k < count {
-        next = put_source(room, next, periods[k], numbers::number_at(weights, k));
-        k += 1;
-    }
-    next
-}
+use trying::draw;
+use trying::draw::Case;
+use trying::numbers;
+use trying::reference;
+use trying::reference::first_of;
+use trying::reference::when;
+use trying::spelling;
+use trying::tally;
 
 // Puts the text of a run and the first of some sources, and answers its end.
 fn put_first(room: &mut [u8], run: Run, count: usize, periods: &[u32], weights: &[u32]) -> usize {
@@ -68,7 +19,7 @@ fn put_first(room: &mut [u8], run: Run, count: usize, periods: &[u32], weights: 
     if weights.len() < count {
         return 0;
     }
-    put_text(room, run, &periods[0..count], &weights[0..count])
+    spelling::put_text(room, run, &periods[0..count], &weights[0..count])
 }
 
 // Whether a text is refused with this number; or, for 0, is read as a run and sources whose text it is.
@@ -107,15 +58,15 @@ fn spoil_end(room: &mut [u8], end: usize, state: u64) -> usize {
     let last = std::num::wrapping_sub_usize(end, 1);
     match state % 80 {
         0 => last,
-        1 => put_words(room, end, b"\n"),
-        2 => put_words(room, last, b" \n"),
-        3 => put_words(room, last, b"\r\n"),
-        4 => put_words(room, end, b"src 1\n"),
-        5 => put_words(room, end, b"scr 1 1\n"),
-        6 => put_words(room, end, b"src 01 1\n"),
-        7 => put_words(room, end, b"src  1 1\n"),
-        8 => put_words(room, end, b"src 1 1"),
-        9 => put_words(room, end, b"src 4294967296 1\n"),
+        1 => spelling::put_words(room, end, b"\n"),
+        2 => spelling::put_words(room, last, b" \n"),
+        3 => spelling::put_words(room, last, b"\r\n"),
+        4 => spelling::put_words(room, end, b"src 1\n"),
+        5 => spelling::put_words(room, end, b"scr 1 1\n"),
+        6 => spelling::put_words(room, end, b"src 01 1\n"),
+        7 => spelling::put_words(room, end, b"src  1 1\n"),
+        8 => spelling::put_words(room, end, b"src 1 1"),
+        9 => spelling::put_words(room, end, b"src 4294967296 1\n"),
         _ => end,
     }
 }
@@ -134,7 +85,7 @@ fn judge(malformed: bool, run: Run, periods: &[u32], weights: &[u32]) -> u8 {
 // is reported so.
 fn text_is(run: Run, periods: &[u32], weights: &[u32], state: u64) -> bool {
     let mut room = [0u8; 4200];
-    let right = put_text(&mut room, run, periods, weights);
+    let right = spelling::put_text(&mut room, run, periods, weights);
     let end = spoil_end(&mut room, right, state);
     let number = judge(end != right, run, periods, weights);
     let asked = state % 4 == 0;
@@ -214,14 +165,14 @@ pub fn try_long(ledger: &mut [u64]) {
         last: 5,
     };
     periods[0] = 1000;
-    let right = put_text(&mut room, run, &periods, &weights);
+    let right = spelling::put_text(&mut room, run, &periods, &weights);
     tally::count(
         ledger,
         tally::LONG_TEXTS,
         right == 4096 && reads(&room[0..4096], 12),
     );
     periods[0] = 10000;
-    let long = put_text(&mut room, run, &periods, &weights);
+    let long = spelling::put_text(&mut room, run, &periods, &weights);
     tally::count(
         ledger,
         tally::LONG_TEXTS,

@@ -1,0 +1,29 @@
+-- `trying::reference::expect_map` is safe and ends. What is lent keeps its length; the measure is the number of turns left.
+use Prim.Native.Nat.{_-_}
+use mathlib.Core.Path.{_≡_}
+use lib.ListN.{length}
+use borrow.Author.Needs.{needs}
+use Rattle.trying.proofs.reference.expect_map.Statement.{statement}
+use Rattle.trying.proofs.reference.expect_map.Tie as tie
+
+pub expect-map-spec : {M : Type 1} → statement M
+expect-map-spec =
+    tie.close
+    (tie.spec
+    (λ refusal run periods weights map₀ all x₀ map x. length map ≡ length map₀)
+    (λ refusal run periods weights map₀ all x₀ map x. all - x)
+    (λ c. search needs)
+    (λ c. search needs)
+    (λ c κs. search needs)
+    (λ c. search needs)
+    (λ c κs. search needs)
+    (λ c κs. search needs)
+    (λ c κs. search needs)
+    (λ c. search needs)
+    (λ c κs. search needs)
+    (λ c κs. search needs)
+    (λ c. search needs)
+    (λ c. search needs)
+    (λ c. search needs)
+    (λ c. search needs)
+    (λ c. search needs))

@@ -1,0 +1,9 @@
+// What the test program goes by: random runs and sources, what 01 says of them worked out for each cell by itself, and the counts.
+// Every function is proved safe and ending, for all numbers and all lent lengths. Nothing here is a public operation.
+pub mod draw;
+pub mod layout;
+pub mod numbers;
+pub mod printing;
+pub mod reference;
+pub mod spelling;
+pub mod tally;
