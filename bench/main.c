@@ -81,7 +81,7 @@ static uint64_t count_hits(void) {
 
 static void add(int who) {
     uint64_t all = cells_of(r);
-    if (who == OURS && zenithgong_add_to_map(r.window, r.interval, r.first, r.last, periods, sources, weights, sources, map, all)) exit(3);
+    if (who == OURS && zenithgong_add_to_map(r.window, r.interval, r.first, r.last, periods, sources, weights, sources, map, all).refusal) exit(3);
     if (who == NAIVE) gcc_naive(r, periods, weights, sources, map);
     if (who == GCC) gcc_walk(r, periods, weights, sources, map);
     if (who == CLANG) clang_walk(r, periods, weights, sources, map);

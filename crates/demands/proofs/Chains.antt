@@ -17,7 +17,8 @@ use Rattle.scope.specs.declared.RunCell.{RunCell}
 use Rattle.scope.specs.declared.BlockCell.{BlockCell}
 use Rattle.scope.specs.Run.{ValidRun, ValidSource, cellsOf}
 use Rattle.scope.specs.Hit.{isHit, hitsFrom}
-use Rattle.scope.specs.Refusal.{Complaint, complaint}
+use Rattle.scope.specs.Refusal.{Complaint, complaint, number}
+use Rattle.scope.specs.declared.Place.{Place}
 use Rattle.scope.specs.Reply.{refused, answered, reply, stored}
 use Rattle.scope.proofs.Judged.{Passes, both, sound}
 use Rattle.scope.proofs.Limits.{passes-then, passes-when, valid-run-passes, valid-source-passes}
@@ -170,10 +171,10 @@ accepted {block} {source} v w start inside room lent =
     both (both (both (valid-run-passes v) (valid-source-passes w)) (sound (lt-leb (cellsOf block) (start .0) inside))) (sound (ne-eqb (length room) 0 (λ e. omega arith)))
 
 -- it is not refused
-pub not-refused : {block : Run} {source : Source} → ValidRun block → ValidSource source → (start : RunCell) → start .0 < cellsOf block → (room : List ℕ) → 1 ≤ length room → (r : Listing) (after : List ℕ) → ListingPromise block source start room r after → (n : ℕ) → saysListing r ≡ refused n → ⊥
-not-refused {block} {source} v w start inside room lent r after h n e =
+pub not-refused : {block : Run} {source : Source} → ValidRun block → ValidSource source → (start : RunCell) → start .0 < cellsOf block → (room : List ℕ) → 1 ≤ length room → (r : Listing) (after : List ℕ) → ListingPromise block source start room r after → (n : ℕ) (place : Place) → saysListing r ≡ refused n place → ⊥
+not-refused {block} {source} v w start inside room lent r after h n place e =
     let p = accepted v w start inside room lent .is in
-    let s : refused n ≡ answered (listed (hitsFrom block source (start .0)) room) = sym e ∙ h .says ∙ rw p in
+    let s : refused n place ≡ answered (listed (hitsFrom block source (start .0)) room) = sym e ∙ h .says ∙ rw p in
     let z : _≡_ {A = ℕ} 0 1 = cc in
     omega arith
 
@@ -192,7 +193,7 @@ lent-from {block} {source} v w start inside rooms above rest = let o = listing-e
         let l = left h in
         let c = rest next (l .inside) (l .fewer) in
         record { chain = more (rooms 0) after n next h (c .chain); lends = (refl, c .lends) }
-    go (Refused n) after h = absurd (not-refused v w start inside (rooms 0) (above 0) (Refused n) after h n refl)
+    go (Refused reason place) after h = absurd (not-refused v w start inside (rooms 0) (above 0) (Refused reason place) after h (number reason) place refl)
 
 -- m is no less than the number of hits that are left
 lent-bounded : {block : Run} {source : Source} → ValidRun block → ValidSource source → (m : ℕ) (start : RunCell) → start .0 < cellsOf block → length (hitsFrom block source (start .0)) ≤ m → (rooms : ℕ → List ℕ) → ((k : ℕ) → 1 ≤ length (rooms k)) → Lent block source start rooms

@@ -1,10 +1,11 @@
 -- Demand 1: "Every call ends, for all inputs and all lent lengths, without asking its caller for anything first. Bad input
--- gets the refusal number of document 01, exactly when its table says so, and a refused call stores nothing."
+-- gets the refusal number of document 01, exactly when its table says so, and a refused call stores nothing." Request E1: "Demand 1
+-- reads with the finer table", and a refusal has its place.
 -- That every call ends is what the check of its function says, and no public operation has a `requires`. The rest stands
 -- here, for every input and every outcome that a promise admits. Assumes nothing.
 use Prim.Native.Nat.{ℕ, _≤_, _<_}
 use native.Mathlib.Omega.{arith}
-use mathlib.Core.Path.{_≡_, refl, sym, ap, _∙_, subst}
+use mathlib.Core.Path.{_≡_, refl, sym, ap, ap₂, _∙_, subst}
 use mathlib.Core.Logic.{_↔_, Iff·trans, _⊎_, inl, inr, _≢_}
 use mathlib.Core.List.{List, [], _∷_, _++_}
 use mathlib.Core.Option.{Option, some, none}
@@ -19,7 +20,9 @@ use Rattle.scope.specs.Hit.{hitsFrom}
 use Rattle.scope.specs.Refusal.{Complaint, complaint, number}
 use Rattle.scope.specs.Reply.{Said, refused, answered}
 use Rattle.sources.specs.Entry.{Entry, entriesOf}
-use Rattle.scope.proofs.Judged.{Fails, sound, both}
+use Rattle.scope.specs.declared.Reason.{Reason}
+use Rattle.scope.specs.declared.Place.{Place}
+use Rattle.scope.proofs.Judged.{refused-same, sound, both}
 use Rattle.scope.proofs.Limits.{passes-when, passes-first, passes-then, valid-run, valid-run-passes, valid-source, valid-source-passes}
 use Rattle.sources.specs.Lists.{periodsOf, weightsOf, ValidEntries}
 use Rattle.sources.proofs.Entries.{entries-of, periods-length, weights-length, valid-entries, valid-entries-pass}
@@ -36,17 +39,16 @@ use Rattle.saved.specs.declared.Loaded.{Loaded}
 use Rattle.saved.specs.File.{fileOf, runOf, mapOf}
 use Rattle.saved.specs.Promise.{saysSaving, saysReading, SavingPromise, ReadingPromise}
 use Rattle.scope.proofs.Differs.{agrees, same}
-use Rattle.text.specs.declared.Answer.{Answer}
-use Rattle.text.specs.declared.Answer.the-variants.{Read, Refused}
+use Rattle.text.specs.declared.Answer.the-variants.{Refused}
 use Rattle.text.specs.declared.Input.{Input}
 use Rattle.words.specs.Line.{line}
-use Rattle.text.specs.Form.{Content}
+use Rattle.text.specs.Form.{Content, Spells}
 use Rattle.rooms.specs.Lists.{zeros, padded}
-use Rattle.text.specs.Promise.{mostSources, Reads, replyTo, handed, refusal, saysText, TextPromise}
-use Rattle.words.proofs.Lines.{line-split}
+use Rattle.text.specs.Promise.{mostSources, mostCells, Reads, replyTo, handed, refusal, saysText, TextPromise}
 use Rattle.text.proofs.Unique.{spells-unique}
 use Rattle.report.specs.declared.Output.{Output}
-use Rattle.report.specs.Report.{refusedWord, runReport, wholeReport, printed, reportOf}
+use Rattle.report.specs.Report.{refusalReport, runReport, wholeReport, printed, reportOf}
+use Rattle.report.proofs.Refusals.{refusal-told, refusal-second}
 use Rattle.report.specs.Promise.{roomBytes, ReportPromise}
 use Rattle.scope.specs.Table.{Row, _given_, Says, Silent, runTable}
 use Rattle.saved.specs.Table.{savingTable, readingTable}
@@ -57,7 +59,7 @@ use Rattle.hits.specs.Table.{firstHitTable, listingTable}
 use Rattle.map.specs.Table.{mapTable}
 use Rattle.text.specs.Table.{textTable, SaysOfText}
 use Rattle.demands.specs.Texts.{printedBy}
-use Rattle.scope.proofs.Rendered.{says-split, silent-says, exactly, keeps}
+use Rattle.scope.proofs.Rendered.{FailsAs, says-split, silent-says, complained, exactly, keeps}
 use Rattle.saved.proofs.Table.{saving-renders, reading-renders}
 use Rattle.vectors.proofs.Table.{vectors-renders}
 use Rattle.hits.proofs.Table.{first-hit-renders, listing-renders}
@@ -66,95 +68,97 @@ use Rattle.text.proofs.Table.{text-renders}
 
 -- ---- vectors
 
--- A reply of the vectors call reads "refused n" exactly when its table says n. (Nothing is lent.)
-pub vectors-refused : (p r I : ℕ) (steps : Steps) → VectorsPromise p r I steps → (n : ℕ) → (saysVectors steps ≡ refused n) ↔ Says (vectorsTable p r I) n
+-- A reply of the vectors call reads "refused n" at a place exactly when its table says so. (Nothing is lent.)
+pub vectors-refused : (p r I : ℕ) (steps : Steps) → VectorsPromise p r I steps → (n : ℕ) (place : Place) → (saysVectors steps ≡ refused n place) ↔ Says (vectorsTable p r I) n place
 unfolding VectorsPromise
-vectors-refused p r I steps h n = Iff·trans (admitted (complaint (vectorsTests p r I)) (saysVectors steps) refl h) (vectors-renders p r I .fails n)
+vectors-refused p r I steps h n place = Iff·trans (admitted (complaint (vectorsTests p r I)) (saysVectors steps) refl h) (vectors-renders p r I .fails n place)
   where
-    admitted : (o : Option Complaint) (said : Said Values) → complaint (vectorsTests p r I) ≡ o → Admits o p r I said → (said ≡ refused n) ↔ Fails (vectorsTests p r I) n
-    admitted none (answered values) i h = (λ e. absurd (let z : _≡_ {A = ℕ} 0 1 = cc in omega arith), λ f. absurd (let z : _≡_ {A = ℕ} 0 1 = cc in omega arith))
-    admitted none (refused m) i h = absurd h
-    admitted (some c) said i h = (λ e. record { blames = c; is = i; numbered = cc }, λ f. h ∙ cc)
+    admitted : (o : Option Complaint) (said : Said Values) → complaint (vectorsTests p r I) ≡ o → Admits o p r I said → (said ≡ refused n place) ↔ FailsAs (vectorsTests p r I) n place
+    admitted none (answered values) i h = (λ e. absurd (let z : _≡_ {A = ℕ} 0 1 = cc in omega arith), λ f. absurd (let k = sym i ∙ f .fails .is in let z : _≡_ {A = ℕ} 0 1 = cc in omega arith))
+    admitted none (refused m other) i h = absurd h
+    admitted (some c) said i h =
+        let told = complained c i n place in
+        (λ e. told .0 (refused-same (sym h ∙ e)), λ f. let s = told .1 f in h ∙ ap₂ refused (s .0) (s .1))
 
 -- ---- first hit and listing
 
 module _ (run : Run) (source : Source) (start : RunCell) where
-  -- A reply of the first-hit call reads "refused n" exactly when its table says n. (Nothing is lent.)
-  pub first-hit-refused : (r : FirstHit) → FirstHitPromise run source start r → (n : ℕ) → (saysFirstHit r ≡ refused n) ↔ Says (firstHitTable run source start) n
+  -- A reply of the first-hit call reads "refused n" at a place exactly when its table says so. (Nothing is lent.)
+  pub first-hit-refused : (r : FirstHit) → FirstHitPromise run source start r → (n : ℕ) (place : Place) → (saysFirstHit r ≡ refused n place) ↔ Says (firstHitTable run source start) n place
   unfolding FirstHitPromise
   first-hit-refused r h = exactly (first-hit-renders run source start) (first (hitsFrom run source (start .0))) (saysFirstHit r) h
 
   module _ (room : List ℕ) (r : Listing) (after : List ℕ) (h : ListingPromise run source start room r after) where
-    -- A reply of the listing call reads "refused n" exactly when its table says n.
-    pub listing-refused : (n : ℕ) → (saysListing r ≡ refused n) ↔ Says (listingTable run source start room) n
+    -- A reply of the listing call reads "refused n" at a place exactly when its table says so.
+    pub listing-refused : (n : ℕ) (place : Place) → (saysListing r ≡ refused n place) ↔ Says (listingTable run source start room) n place
     listing-refused = exactly (listing-renders run source start room) (listed (hitsFrom run source (start .0)) room) (saysListing r) (h .says)
 
     -- And the room then holds what it held.
-    pub listing-keeps : (n : ℕ) → saysListing r ≡ refused n → after ≡ room
+    pub listing-keeps : (n : ℕ) (place : Place) → saysListing r ≡ refused n place → after ≡ room
     listing-keeps = keeps (listing-renders run source start room) (listed (hitsFrom run source (start .0)) room) (saysListing r) (h .says) room (written (hitsFrom run source (start .0)) room) after (h .stores)
 
 -- ---- map
 
 module _ (run : Run) (periods weights map : List ℕ) (answer : Added) (after : List ℕ) (h : MapPromise run periods weights map answer after) where
-  -- A reply of the map call reads "refused n" exactly when its table says n.
-  pub map-refused : (n : ℕ) → (saysMap answer ≡ refused n) ↔ Says (mapTable run periods weights map) n
+  -- A reply of the map call reads "refused n" at a place exactly when its table says so.
+  pub map-refused : (n : ℕ) (place : Place) → (saysMap answer ≡ refused n place) ↔ Says (mapTable run periods weights map) n place
   map-refused = exactly (map-renders run periods weights map) tt (saysMap answer) (h .says)
 
   -- And the map then holds what it held: none is "half written before the tenth source is refused".
-  pub map-keeps : (n : ℕ) → saysMap answer ≡ refused n → after ≡ map
+  pub map-keeps : (n : ℕ) (place : Place) → saysMap answer ≡ refused n place → after ≡ map
   map-keeps = keeps (map-renders run periods weights map) tt (saysMap answer) (h .says) map (added ceiling run (entriesOf periods weights) map) after (h .stores)
 
 -- ---- saving and reading
 
 module _ (run : Run) (map room : List ℕ) (answer : Saved) (after : List ℕ) (h : SavingPromise run map room answer after) where
-  -- A reply of the saving call reads "refused n" exactly when its table says n.
-  pub saving-refused : (n : ℕ) → (saysSaving answer ≡ refused n) ↔ Says (savingTable run map room) n
+  -- A reply of the saving call reads "refused n" at a place exactly when its table says so.
+  pub saving-refused : (n : ℕ) (place : Place) → (saysSaving answer ≡ refused n place) ↔ Says (savingTable run map room) n place
   saving-refused = exactly (saving-renders run map room) tt (saysSaving answer) (h .says)
 
   -- And the room for the file then holds what it held.
-  pub saving-keeps : (n : ℕ) → saysSaving answer ≡ refused n → after ≡ room
+  pub saving-keeps : (n : ℕ) (place : Place) → saysSaving answer ≡ refused n place → after ≡ room
   saving-keeps = keeps (saving-renders run map room) tt (saysSaving answer) (h .says) room (fileOf run map) after (h .stores)
 
 module _ (file map : List ℕ) (answer : Loaded) (after : List ℕ) (h : ReadingPromise file map answer after) where
-  -- A reply of the reading call reads "refused n" exactly when its table says n.
-  pub reading-refused : (n : ℕ) → (saysReading answer ≡ refused n) ↔ Says (readingTable file map) n
+  -- A reply of the reading call reads "refused n" at a place exactly when its table says so.
+  pub reading-refused : (n : ℕ) (place : Place) → (saysReading answer ≡ refused n place) ↔ Says (readingTable file map) n place
   reading-refused = exactly (reading-renders file map) (runOf file) (saysReading answer) (h .says)
 
   -- And the map then holds what it held.
-  pub reading-keeps : (n : ℕ) → saysReading answer ≡ refused n → after ≡ map
+  pub reading-keeps : (n : ℕ) (place : Place) → saysReading answer ≡ refused n place → after ≡ map
   reading-keeps = keeps (reading-renders file map) (runOf file) (saysReading answer) (h .says) map (mapOf file) after (h .stores)
 
 -- ---- reading a text
 
--- What is to be replied to a text is "refused n" exactly when the table of the text says n.
-reply-refused : (text : List ℕ) (o : Option Content) → Reads text o → (n : ℕ) → (replyTo o ≡ refused n) ↔ SaysOfText text n
-unfolding number
-reply-refused text none r n = (λ k. inl (cc, r), back)
+-- What is to be replied to a text is "refused n" at a place exactly when the table of the text says so.
+reply-refused : (text : List ℕ) (o : Option Content) → Reads text o → (n : ℕ) (place : Place) → (replyTo o ≡ refused n place) ↔ SaysOfText text n place
+reply-refused text none r n place = (λ k. let s = refused-same k in inl (inl (s .0, s .1, r)), back)
   where
-    back : SaysOfText text n → replyTo none ≡ refused n
-    back (inl k) = ap refused (k .0)
+    back : SaysOfText text n place → replyTo none ≡ refused n place
+    back (inl (inl k)) = ap₂ refused (k .0) (k .1)
+    back (inl (inr k)) = absurd (k .1)
     back (inr k) = absurd (r (k .0) (k .1))
-reply-refused text (some content) r n = (λ k. inr (content, r, told .0 k), back)
+reply-refused text (some content) r n place = (λ k. inr (content, r, told .0 k), back)
   where
-    told : (replyTo (some content) ≡ refused n) ↔ Says (textTable content) n
-    told = exactly (text-renders content) (content .run) (replyTo (some content)) refl n
+    told : (replyTo (some content) ≡ refused n place) ↔ Says (textTable content) n place
+    told = exactly (text-renders content) (content .run) (replyTo (some content)) refl n place
 
-    back : SaysOfText text n → replyTo (some content) ≡ refused n
-    back (inl k) = absurd (k .1 content r)
-    back (inr k) = told .1 (subst (λ c. Says (textTable c) n) (spells-unique (k .1) r) (k .2))
+    back : SaysOfText text n place → replyTo (some content) ≡ refused n place
+    back (inl (inl k)) = absurd (k .2 content r)
+    back (inl (inr k)) = absurd (k .1)
+    back (inr k) = told .1 (subst (λ c. Says (textTable c) n place) (spells-unique (k .1) r) (k .2))
 
 module _ (text : List ℕ) (input : Input) (h : TextPromise text input) where
-  -- A reply to a text reads "refused n" exactly when its table says n: 11 exactly when the text has not the form, else what the
-  -- table says of the run and the sources in it.
-  pub text-refused : (n : ℕ) → (saysText (input .answer) ≡ refused n) ↔ SaysOfText text n
-  text-refused n = rw (h .says) (reply-refused text (h .content) (h .reads) n)
+  -- A reply to a text reads "refused n" at a place exactly when its table says so: 11 exactly when the text has not the form, else
+  -- what the table says of the run and the sources in it.
+  pub text-refused : (n : ℕ) (place : Place) → (saysText (input .answer) ≡ refused n place) ↔ SaysOfText text n place
+  text-refused n place = rw (h .says) (reply-refused text (h .content) (h .reads) n place)
 
-  -- "A refused call answers with the number alone": no source goes with it.
-  pub text-refused-alone : (n : ℕ) → saysText (input .answer) ≡ refused n → input ≡ refusal n
+  -- "a refusal carries the reason and, where it concerns a source, that place" (E1), and nothing else: no source goes with it.
+  pub text-refused-alone : (reason : Reason) (place : Place) → input .answer ≡ Refused reason place → input ≡ refusal reason place
   unfolding padded zeros periodsOf weightsOf
-  text-refused-alone n k =
+  text-refused-alone reason place answers =
       let none-handed = go (h .content) (h .says) in
-      let answers = refuses (input .answer) k in
       let counts = h .counts ∙ ap length none-handed in
       let periods = h .periods ∙ ap (λ es. padded mostSources (periodsOf es)) none-handed in
       let weights = h .weights ∙ ap (λ es. padded mostSources (weightsOf es)) none-handed in
@@ -162,32 +166,28 @@ module _ (text : List ℕ) (input : Input) (h : TextPromise text input) where
     where
       go : (o : Option Content) → saysText (input .answer) ≡ replyTo o → handed o ≡ []
       go none e = refl
-      go (some content) e = keeps (text-renders content) (content .run) (saysText (input .answer)) e [] (content .entries) (handed (some content)) refl n k
-
-      refuses : (answer : Answer) → saysText answer ≡ refused n → answer ≡ Refused n
-      refuses (Read run) e = cc
-      refuses (Refused m) e = cc
+      go (some content) e = keeps (text-renders content) (content .run) (saysText (input .answer)) e [] (content .entries) (handed (some content)) refl (number reason) place (ap saysText answers)
 
 -- ---- the report on a text
 
--- One line `refused n` is printed for a refusal with the number n, and for nothing else: a whole report begins with `ru`, and
--- numbers that are written the same are the same.
-printed-refused : (said : Said Run) (entries : List Entry) (n : ℕ) → (printed said entries ≡ line refusedWord (n ∷ [])) ↔ (said ≡ refused n)
+-- The line `refused n`, or `refused n source k`, is printed for a refusal with this number and this place, and for nothing else: a
+-- whole report begins with `ru`, and lines of refusals that are written the same are of one number and one place.
+printed-refused : (said : Said Run) (entries : List Entry) (n : ℕ) (place : Place) → (printed said entries ≡ refusalReport n place) ↔ (said ≡ refused n place)
 unfolding printed wholeReport runReport line
-printed-refused (refused m) entries n = (λ e. ap (λ l. refused (getD l 0 0)) (same e), λ e. cc)
-  where
-    same : line refusedWord (m ∷ []) ≡ line refusedWord (n ∷ []) → m ∷ [] ≡ n ∷ []
-    same e = line-split refusedWord (m ∷ []) (n ∷ []) [] [] (ap (λ l. l ++ []) e) .0
-printed-refused (answered run) entries n = (λ e. absurd (let z : _≡_ {A = ℕ} 117 101 = ap (λ l. getD l 1 0) e in omega arith), λ e. absurd (let z : _≡_ {A = ℕ} 0 1 = cc in omega arith))
+printed-refused (refused m k) entries n place = (λ e. let s = refusal-told m n k place e in ap₂ refused (s .0) (s .1), λ e. let s = refused-same e in ap₂ refusalReport (s .0) (s .1))
+printed-refused (answered run) entries n place = (
+  λ e. absurd (let z : _≡_ {A = ℕ} 117 101 = ap (λ l. getD l 1 0) e ∙ refusal-second n place in omega arith),
+  λ e. absurd (let z : _≡_ {A = ℕ} 0 1 = cc in omega arith),
+)
 
--- What is printed of a text is the line `refused n`, "and nothing more", exactly when the table of the text says n. (Nothing is
--- lent.)
-pub report-refused : (text : List ℕ) (output : Output) → ReportPromise text output → (n : ℕ) → (printedBy output ≡ line refusedWord (n ∷ [])) ↔ SaysOfText text n
+-- What is printed of a text is the line of a refusal, "and nothing more", exactly when the table of the text says its number at its
+-- place. (Nothing is lent.)
+pub report-refused : (text : List ℕ) (output : Output) → ReportPromise text output → (n : ℕ) (place : Place) → (printedBy output ≡ refusalReport n place) ↔ SaysOfText text n place
 unfolding reportOf
-report-refused text output h n =
+report-refused text output h n place =
     let bytes = reportOf (h .content) in
     let is : printedBy output ≡ bytes = ap (take (output .length)) (h .says .begins) ∙ padded-front roomBytes (output .length) bytes (sym (h .says .counts)) in
-    rw is (Iff·trans (printed-refused (replyTo (h .content)) (handed (h .content)) n) (reply-refused text (h .content) (h .reads) n))
+    rw is (Iff·trans (printed-refused (replyTo (h .content)) (handed (h .content)) n place) (reply-refused text (h .content) (h .reads) n place))
 
 -- ---- input that is not bad
 
@@ -217,38 +217,74 @@ module _ (run : Run) (fits : run .interval ≤ 4294967295) where
 
 -- ---- a list of sources at fault
 
--- "source by source 4 before 7": what the table says of two lists is what is broken by the first source that breaks 4 or 7; it
--- is 4 if that source breaks 4.
-pub sources-at-fault : (periods weights : List ℕ) → length periods ≡ length weights → (n : ℕ) → Says (sourcesTable (entriesOf periods weights)) n ↔ AtFault periods weights n
+-- "source by source 4 before 7": what the table says of two lists is what is broken by the first source that breaks 4 or 7, at its
+-- place; it is 4 if that source breaks 4.
+pub sources-at-fault : (periods weights : List ℕ) → length periods ≡ length weights → (n : ℕ) (place : Place) → Says (sourcesTable 1 (entriesOf periods weights)) n place ↔ AtFault periods weights n place
 sources-at-fault = Sources.sources-at-fault
 
 -- The same of the sources that a text has.
-pub entries-at-fault : (entries : List Entry) (n : ℕ) → Says (sourcesTable entries) n ↔ AtFault (periodsOf entries) (weightsOf entries) n
-entries-at-fault entries n = rw (entries-of entries) at (sources-at-fault (periodsOf entries) (weightsOf entries) (periods-length entries ∙ sym (weights-length entries)) n)
+pub entries-at-fault : (entries : List Entry) (n : ℕ) (place : Place) → Says (sourcesTable 1 entries) n place ↔ AtFault (periodsOf entries) (weightsOf entries) n place
+entries-at-fault entries n place = rw (entries-of entries) at (sources-at-fault (periodsOf entries) (weightsOf entries) (periods-length entries ∙ sym (weights-length entries)) n place)
 
--- Where the run and the lengths of the lists are in order, a map call reads "refused n", n being no 9, exactly if a source is so
--- at fault: then n is 4 or 7.
-pub map-at-fault : (run : Run) (periods weights map : List ℕ) (answer : Added) (after : List ℕ) → MapPromise run periods weights map answer after → Silent (runTable run) → length periods ≡ length weights → (n : ℕ) → n ≢ 9 → (saysMap answer ≡ refused n) ↔ AtFault periods weights n
-map-at-fault run periods weights map answer after h fine equal n other = Iff·trans (map-refused run periods weights map answer after h n) (Iff·trans (to, from) (sources-at-fault periods weights equal n))
+-- Where the run and the lengths of the lists are in order, a map call reads "refused n" at a place, n being no 9, exactly if a source
+-- is so at fault: then n is 4 or 7, and the place is that source's.
+pub map-at-fault : (run : Run) (periods weights map : List ℕ) (answer : Added) (after : List ℕ) → MapPromise run periods weights map answer after → Silent (runTable run) → length periods ≡ length weights → (n : ℕ) (place : Place) → n ≢ 9 → (saysMap answer ≡ refused n place) ↔ AtFault periods weights n place
+map-at-fault run periods weights map answer after h fine equal n place other = Iff·trans (map-refused run periods weights map answer after h n place) (Iff·trans (to, from) (sources-at-fault periods weights equal n place))
   where
     sources : List Row
-    sources = sourcesTable (entriesOf periods weights)
+    sources = sourcesTable 1 (entriesOf periods weights)
 
     room : List Row
     room = 9 given (length map ≢ cellsOf run) ∷ []
 
-    last : Says sources n ⊎ (Silent sources × Says room n) → Says sources n
+    last : Says sources n place ⊎ (Silent sources × Says room n place) → Says sources n place
     last (inl k) = k
     last (inr (s, inl k)) = absurd (other (sym (k .0)))
     last (inr (s, inr k)) = absurd (k .1)
 
-    lists : Says (runTable run) n ⊎ (Silent (runTable run) × Says (10 given (length periods ≢ length weights) ∷ (sources ++ room)) n) → Says sources n
-    lists (inl k) = absurd (silent-says (runTable run) n fine k)
-    lists (inr (s, inl k)) = absurd (k .1 equal)
-    lists (inr (s, inr k)) = last (says-split sources room n .0 (k .1))
+    lists : Says (runTable run) n place ⊎ (Silent (runTable run) × Says (10 given (length periods ≢ length weights) ∷ (sources ++ room)) n place) → Says sources n place
+    lists (inl k) = absurd (silent-says (runTable run) n place fine k)
+    lists (inr (s, inl k)) = absurd (k .2 equal)
+    lists (inr (s, inr k)) = last (says-split sources room n place .0 (k .1))
 
-    to : Says (mapTable run periods weights map) n → Says sources n
-    to s = lists (says-split (runTable run) (10 given (length periods ≢ length weights) ∷ (sources ++ room)) n .0 s)
+    to : Says (mapTable run periods weights map) n place → Says sources n place
+    to s = lists (says-split (runTable run) (10 given (length periods ≢ length weights) ∷ (sources ++ room)) n place .0 s)
 
-    from : Says sources n → Says (mapTable run periods weights map) n
-    from s = says-split (runTable run) (10 given (length periods ≢ length weights) ∷ (sources ++ room)) n .1 (inr (fine, inr (λ k. k equal, says-split sources room n .1 (inl s))))
+    from : Says sources n place → Says (mapTable run periods weights map) n place
+    from s = says-split (runTable run) (10 given (length periods ≢ length weights) ∷ (sources ++ room)) n place .1 (inr (fine, inr (λ k. k equal, says-split sources room n place .1 (inl s))))
+
+-- The same of a text: where it has the form, the run's rows are silent and neither its sources nor its cells are too many, it is refused
+-- exactly if one of its sources is so at fault. The place counts its `src` lines.
+says-at-fault : (text : List ℕ) (content : Content) → Spells text content → Silent (runTable (content .run)) → length (content .entries) ≤ mostSources → cellsOf (content .run) ≤ mostCells → (n : ℕ) (place : Place) → SaysOfText text n place ↔ AtFault (periodsOf (content .entries)) (weightsOf (content .entries)) n place
+says-at-fault text content spells fine few small n place = Iff·trans (to, from) (entries-at-fault (content .entries) n place)
+  where
+    sources : List Row
+    sources = sourcesTable 1 (content .entries)
+
+    many : List Row
+    many = 12 given ((mostSources < length (content .entries)) ⊎ (mostCells < cellsOf (content .run))) ∷ sources
+
+    few-enough : (mostSources < length (content .entries)) ⊎ (mostCells < cellsOf (content .run)) → ⊥
+    few-enough (inl k) = omega arith
+    few-enough (inr k) = omega arith
+
+    own : Says (runTable (content .run)) n place ⊎ (Silent (runTable (content .run)) × Says many n place) → Says sources n place
+    own (inl k) = absurd (silent-says (runTable (content .run)) n place fine k)
+    own (inr (s, inl k)) = absurd (few-enough (k .2))
+    own (inr (s, inr k)) = k .1
+
+    to : SaysOfText text n place → Says sources n place
+    to (inl (inl k)) = absurd (k .2 content spells)
+    to (inl (inr k)) = absurd (k .1)
+    to (inr k) = own (says-split (runTable (content .run)) many n place .0 (subst (λ c. Says (textTable c) n place) (spells-unique (k .1) spells) (k .2)))
+
+    from : Says sources n place → SaysOfText text n place
+    from s = inr (content, spells, says-split (runTable (content .run)) many n place .1 (inr (fine, inr (few-enough, s))))
+
+module _ (text : List ℕ) (content : Content) (spells : Spells text content) (fine : Silent (runTable (content .run))) (few : length (content .entries) ≤ mostSources) (small : cellsOf (content .run) ≤ mostCells) where
+  pub text-at-fault : (input : Input) → TextPromise text input → (n : ℕ) (place : Place) → (saysText (input .answer) ≡ refused n place) ↔ AtFault (periodsOf (content .entries)) (weightsOf (content .entries)) n place
+  text-at-fault input h n place = Iff·trans (text-refused text input h n place) (says-at-fault text content spells fine few small n place)
+
+  -- And of what is printed of it.
+  pub report-at-fault : (output : Output) → ReportPromise text output → (n : ℕ) (place : Place) → (printedBy output ≡ refusalReport n place) ↔ AtFault (periodsOf (content .entries)) (weightsOf (content .entries)) n place
+  report-at-fault output h n place = Iff·trans (report-refused text output h n place) (says-at-fault text content spells fine few small n place)

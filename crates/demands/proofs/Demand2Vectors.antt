@@ -56,7 +56,7 @@ single-is {p} {r} {I} {g} {j} {i} is = (
 admits-is : {p r g : ℕ} (I : ℕ) → IsGcd g r p → (said : Said Values) → Admits none p r I said ↔ StepVectors p r I g said
 admits-is I is (answered (pair α β γ δ)) = (λ h. h, λ h. h)
 admits-is I is (answered (single i j)) = single-is is
-admits-is I is (refused n) = (λ h. h, λ h. h)
+admits-is I is (refused n place) = (λ h. h, λ h. h)
 
 -- "the step vectors are those of Franke and Kleinjung's first proposition, or the single vector": a reply fits the promise
 -- exactly if what it says is these.

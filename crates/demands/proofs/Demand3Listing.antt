@@ -12,6 +12,7 @@ use lib.IntN.{ℤ}
 use Rattle.scope.specs.declared.Run.{Run}
 use Rattle.scope.specs.declared.Source.{Source}
 use Rattle.scope.specs.declared.RunCell.{RunCell}
+use Rattle.scope.specs.Refusal.{number}
 use Rattle.scope.specs.Run.{ValidRun, ValidSource, InRun, cellsOf, lineOf, offsetOf, toRun}
 use Rattle.scope.specs.Hit.{Hits, hitsFrom}
 use Rattle.scope.proofs.Limits.{window-cells}
@@ -131,7 +132,7 @@ mores-end block source start calls mores = few-mores mores
 pub call-answered : (block : Run) (source : Source) → ValidRun block → ValidSource source → (start : RunCell) → start .0 < cellsOf block → (room : List ℕ) → 1 ≤ length room → (r : Listing) (after : List ℕ) → ListingPromise block source start room r after → Answered block r
 call-answered block source v w start inside room lent (Done n) after h = tt
 call-answered block source v w start inside room lent (More n next) after h = goes-inside h
-call-answered block source v w start inside room lent (Refused n) after h = not-refused v w start inside room lent (Refused n) after h n refl
+call-answered block source v w start inside room lent (Refused reason place) after h = not-refused v w start inside room lent (Refused reason place) after h (number reason) place refl
 
 -- And so there are lists for every cut of a valid run, whatever rooms above nothing: to each block's calls its own supply is lent.
 pub listings-exist : (run : Run) (source : Source) → ValidRun run → ValidSource source → (blocks : List Run) → Cut run blocks → (rooms : Run → ℕ → List ℕ) → ((block : Run) → List·Memᴰ block blocks → (k : ℕ) → 1 ≤ length (rooms block k)) → (lists : Listings source blocks) × LendsEach rooms source blocks lists

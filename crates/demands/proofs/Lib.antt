@@ -1,6 +1,7 @@
 -- The demands of document 00, over the promises alone: the files Demand*, NoSecondReply, SomeReply and Texts have the
 -- statements, the others what they rest on.
 pub mod Demand1
+pub mod Demand1Places
 pub mod Demand1Exports
 pub mod NoSecondReply
 pub mod SomeReply

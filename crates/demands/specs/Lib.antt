@@ -4,3 +4,4 @@ pub mod Cut
 pub mod Listing
 pub mod Adding
 pub mod Texts
+pub mod Places

@@ -25,7 +25,7 @@ pub data Chain (block : Run) (source : Source) : RunCell → Type 0 where
 abbrev pub Answered : Run → Listing → Type 0
 Answered block (Done n) = Unit {0}
 Answered block (More n next) = next .0 < cellsOf block
-Answered block (Refused n) = ⊥
+Answered block (Refused reason place) = ⊥
 
 -- Numbers as cells of a block.
 abbrev pub blockCells : List ℕ → List BlockCell

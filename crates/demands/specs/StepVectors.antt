@@ -20,4 +20,4 @@ pub record ValidQuestion (p r I : ℕ) : Type 0 where
 abbrev pub StepVectors : ℕ → ℕ → ℕ → ℕ → Said Values → Type 0
 StepVectors p r I g (answered (pair α β γ δ)) = IsPair p r I (vector α β) (vector γ δ)
 StepVectors p r I g (answered (single i j)) = (I ≤ g) × (i ≡ pos 0) × (j ≡ p / g)
-StepVectors p r I g (refused n) = ⊥
+StepVectors p r I g (refused n place) = ⊥

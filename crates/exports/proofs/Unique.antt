@@ -19,6 +19,7 @@ use Rattle.text.proofs.Unique.{text-unique}
 use Rattle.exports.specs.declared.StepsReply.{StepsReply}
 use Rattle.exports.specs.declared.FirstHitReply.{FirstHitReply}
 use Rattle.exports.specs.declared.ListingReply.{ListingReply}
+use Rattle.exports.specs.declared.AddedReply.{AddedReply}
 use Rattle.exports.specs.declared.RunReply.{RunReply}
 use Rattle.exports.specs.declared.TextReply.{TextReply}
 use Rattle.exports.specs.Promise.{Exported}
@@ -41,7 +42,7 @@ pub exported-listing-unique : {run : Run} {source : Source} {start : RunCell} {r
 exported-listing-unique x y = (answer-unique (λ r s p q. listing-unique p q .0) x y, listing-unique (x .promised) (y .promised) .1)
 
 -- `zenithgong_add_to_map`: one answer, and one map after it.
-pub exported-map-unique : {run : Run} {periods weights map after after′ : List ℕ} {a b : ℕ} → Exported (λ r. MapPromise run periods weights map r after) tellAdded a → Exported (λ r. MapPromise run periods weights map r after′) tellAdded b → (a ≡ b) × (after ≡ after′)
+pub exported-map-unique : {run : Run} {periods weights map after after′ : List ℕ} {a b : AddedReply} → Exported (λ r. MapPromise run periods weights map r after) tellAdded a → Exported (λ r. MapPromise run periods weights map r after′) tellAdded b → (a ≡ b) × (after ≡ after′)
 exported-map-unique x y = (answer-unique (λ r s p q. map-unique p q .0) x y, map-unique (x .promised) (y .promised) .1)
 
 -- `zenithgong_save`: one answer, and one file after it.

@@ -1,14 +1,17 @@
 // The door for programs in other languages: one function for each public operation but the report, called as a C function is.
 // Every function is proved and asks nothing of its caller. A slice goes in as a pointer and a length.
-// An answer's refusal is 0, or the refusal's number; then all else in it is 0, and nothing lent was changed.
+// An answer's refusal is 0, or the refusal's number; then all else in it is 0 but the place of the source that it concerns, if any,
+// and nothing lent was changed. Where no refusal concerns a source of a list, the answer has no place.
 use hits::FirstHit;
 use hits::Listing;
 use map::Added;
 use saved::Loaded;
 use saved::Saved;
+use scope::Place;
 use scope::Run;
 use scope::RunCell;
 use scope::Source;
+use scope::number_of;
 use text::Answer;
 use text::Input;
 use vectors::Steps;
@@ -20,7 +23,7 @@ ghost use Rattle.map.specs.Promise.{MapPromise};
 ghost use Rattle.saved.specs.Promise.{SavingPromise, ReadingPromise};
 ghost use Rattle.text.specs.Promise.{TextPromise};
 ghost use Rattle.exports.specs.Promise.{Exported};
-ghost use Rattle.exports.specs.Replies.{tellSteps, tellFirst, tellListing, tellAdded, tellSaved, tellLoaded, tellAnswer, tellText};
+ghost use Rattle.exports.specs.Replies.{tellPlace, tellSteps, tellFirst, tellListing, tellAdded, tellSaved, tellLoaded, tellAnswer, tellTextPlace, tellText};
 
 // The step vectors.
 #[repr(C)]
@@ -57,6 +60,14 @@ pub struct ListingReply {
     pub next: u64,
 }
 
+// What the map call came to.
+#[repr(C)]
+pub struct AddedReply {
+    pub refusal: u8,
+    // The place of the source at fault, counted from 1; 0 where the refusal concerns none.
+    pub place: u64,
+}
+
 // A run that was read from a file or a text.
 #[repr(C)]
 pub struct RunReply {
@@ -71,10 +82,22 @@ pub struct RunReply {
 #[repr(C)]
 pub struct TextReply {
     pub run: RunReply,
+    // The place of the source at fault, counted from 1; 0 where the refusal concerns none.
+    pub place: u64,
     // How many sources there are; their periods and weights stand first, zeros after them.
     pub count: usize,
     pub periods: [u32; 64],
     pub weights: [u32; 64],
+}
+
+// A place in a number: 0 where there is none.
+fn tell_place(place: Place) -> u64
+    ensures { λ r. ⌜ r ≡ tellPlace place ⌝ }
+{
+    match place {
+        Place::Nowhere => 0,
+        Place::AtSource(k) => k,
+    }
 }
 
 // The step vectors in numbers.
@@ -98,8 +121,8 @@ fn tell_steps(reply: Steps) -> StepsReply
             gamma: 0,
             delta: 0,
         },
-        Steps::Refused(number) => StepsReply {
-            refusal: number,
+        Steps::Refused(reason, _) => StepsReply {
+            refusal: number_of(reason),
             vectors: 0,
             alpha: 0,
             beta: 0,
@@ -124,8 +147,8 @@ fn tell_first(reply: FirstHit) -> FirstHitReply
             found: 0,
             cell: 0,
         },
-        FirstHit::Refused(number) => FirstHitReply {
-            refusal: number,
+        FirstHit::Refused(reason, _) => FirstHitReply {
+            refusal: number_of(reason),
             found: 0,
             cell: 0,
         },
@@ -149,8 +172,8 @@ fn tell_listing(reply: Listing) -> ListingReply
             count,
             next: hit.0,
         },
-        Listing::Refused(number) => ListingReply {
-            refusal: number,
+        Listing::Refused(reason, _) => ListingReply {
+            refusal: number_of(reason),
             more: 0,
             count: 0,
             next: 0,
@@ -158,13 +181,19 @@ fn tell_listing(reply: Listing) -> ListingReply
     }
 }
 
-// What the map call came to, as a number.
-fn tell_added(reply: Added) -> u8
+// What the map call came to, in numbers.
+fn tell_added(reply: Added) -> AddedReply
     ensures { λ r. ⌜ r ≡ tellAdded reply ⌝ }
 {
     match reply {
-        Added::Done => 0,
-        Added::Refused(number) => number,
+        Added::Done => AddedReply {
+            refusal: 0,
+            place: 0,
+        },
+        Added::Refused(reason, place) => AddedReply {
+            refusal: number_of(reason),
+            place: tell_place(place),
+        },
     }
 }
 
@@ -174,7 +203,7 @@ fn tell_saved(reply: Saved) -> u8
 {
     match reply {
         Saved::Done => 0,
-        Saved::Refused(number) => number,
+        Saved::Refused(reason, _) => number_of(reason),
     }
 }
 
@@ -190,8 +219,8 @@ fn tell_loaded(reply: Loaded) -> RunReply
             first: run.first,
             last: run.last,
         },
-        Loaded::Refused(number) => RunReply {
-            refusal: number,
+        Loaded::Refused(reason, _) => RunReply {
+            refusal: number_of(reason),
             window: 0,
             interval: 0,
             first: 0,
@@ -206,7 +235,17 @@ fn tell_answer(reply: Answer) -> RunReply
 {
     match reply {
         Answer::Read(run) => tell_loaded(Loaded::Of(run)),
-        Answer::Refused(number) => tell_loaded(Loaded::Refused(number)),
+        Answer::Refused(reason, place) => tell_loaded(Loaded::Refused(reason, place)),
+    }
+}
+
+// The place that the refusal of a text has, in a number.
+fn tell_text_place(reply: Answer) -> u64
+    ensures { λ r. ⌜ r ≡ tellTextPlace reply ⌝ }
+{
+    match reply {
+        Answer::Read(_) => 0,
+        Answer::Refused(_, place) => tell_place(place),
     }
 }
 
@@ -216,10 +255,12 @@ fn tell_text(reply: Input) -> TextReply
 {
     let answer = reply.answer;
     let run = tell_answer(answer);
+    let place = tell_text_place(answer);
     let periods = reply.periods;
     let weights = reply.weights;
     TextReply {
         run,
+        place,
         count: reply.count,
         periods,
         weights,
@@ -279,7 +320,7 @@ pub extern "C" fn zenithgong_list_hits(
     tell_listing(hits::list_hits(run, Source { period }, RunCell(start), room))
 }
 
-// Public operation: `map::add_to_map` for the run with these four numbers. 0 when done, else the refusal's number.
+// Public operation: `map::add_to_map` for the run with these four numbers, its reply in numbers.
 #[no_mangle]
 pub extern "C" fn zenithgong_add_to_map(
     window: u32,
@@ -289,7 +330,7 @@ pub extern "C" fn zenithgong_add_to_map(
     periods: &[u32],
     weights: &[u32],
     map: &mut [u8],
-) -> u8
+) -> AddedReply
     ensures { λ r. ⌜ Exported (λ reply. MapPromise (runWith window interval first last) (now (periods .entry)) (now (weights .entry)) (now (map .entry)) reply (now (map .exit))) tellAdded r ⌝ }
 {
     let run = run_with(window, interval, first, last);

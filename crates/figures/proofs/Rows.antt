@@ -18,7 +18,9 @@ use Rattle.lattice.specs.Gcd.{IsGcd}
 use Rattle.scope.specs.declared.Run.{Run}
 use Rattle.scope.specs.Run.{runWith, cellsOf, cellOf}
 use Rattle.scope.specs.Hit.{hitsFrom}
-use Rattle.scope.specs.Refusal.{Room, _when_, _andThen_, complaint, number, windowTests, lineTests, runTests, periodTests, sourceTests}
+use Rattle.scope.specs.Refusal.{_when_, _andThen_, complaint, windowTests, lineTests, runTests, periodTests, sourceTests}
+use Rattle.scope.specs.declared.Reason.the-variants.{Room}
+use Rattle.scope.specs.declared.Place.the-variants.{Nowhere}
 use Rattle.scope.specs.Reply.{Said, refused, answered, reply, stored}
 use Rattle.scope.proofs.Judged.{Passes, broken, sound, then, both, grant-reply, grant-stored, said-answered}
 use Rattle.scope.proofs.Limits.{passes-then}
@@ -79,16 +81,16 @@ gcd-zero p = record { divides-left = dvd-zero p; divides-right = dvd-refl p; gre
 
 abbrev count-of : Said Listed → ℕ
 count-of (answered l) = l .count
-count-of (refused n) = 0
+count-of (refused n place) = 0
 
 abbrev next-of : Said Listed → Option ℕ
 next-of (answered l) = l .next
-next-of (refused n) = none
+next-of (refused n place) = none
 
 says-done : (n : ℕ) (r : Listing) → saysListing r ≡ saysListing (Done n) → r ≡ Done n
 says-done n (Done m) e = ap Done (ap count-of e)
 says-done n (More m cell) e = let d : some (cell .0) ≡ none = ap next-of e in cc
-says-done n (Refused m) e = cc
+says-done n (Refused reason place) e = cc
 
 map-pos-same : (a b : List ℕ) → map pos a ≡ map pos b → a ≡ b
 map-pos-same a b e = sym (back a) ∙ ap (map natAbs) e ∙ back b
@@ -157,7 +159,7 @@ map-row run periods weights figure h answer after =
 
 saved-done : (answer : Saved) → saysSaving answer ≡ answered tt → answer ≡ Done·saved
 saved-done Done·saved e = refl
-saved-done (Refused·saved n) e = cc
+saved-done (Refused·saved reason place) e = cc
 
 -- the room's length is the one test left, and every admitted file is the one that the layout gives
 module _ (run : Run) (cells : List ℕ) (size first second : ℕ)
@@ -181,7 +183,7 @@ module _ (run : Run) (cells : List ℕ) (size first second : ℕ)
   exists : (room : List ℕ) → Dec (length room ≡ size) → (answer : Saved) × (after : List ℕ) × SavingPromise run cells room answer after
   unfolding savingTests
   exists room (yes e) = (Done·saved, fileOf run cells, grant-saving (granted-room room e) refl)
-  exists room (no n) = (Refused·saved (number Room), room, refuse-saving (then begun (broken (differs refl refl (λ e. n (e ∙ sym room-size))))))
+  exists room (no n) = (Refused·saved Room Nowhere, room, refuse-saving (then begun (broken (differs refl refl (λ e. n (e ∙ sym room-size))))))
 
   pub saved-row : Holds (saved run cells size first second)
   saved-row room = (λ answer after h. ((to answer after h, from answer after h), holds answer after h), exists room (ℕ-discrete (length room) size))

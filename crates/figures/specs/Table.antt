@@ -8,6 +8,7 @@ use lib.IntN.{ℤ, pos}
 use lib.ListN.{length, replicate}
 use Rattle.scope.specs.declared.Run.{Run}
 use Rattle.scope.specs.Run.{runWith, cellOf}
+use Rattle.scope.specs.declared.Place.the-variants.{Nowhere}
 use Rattle.scope.specs.Reply.{Said, refused, answered}
 use Rattle.vectors.specs.declared.Steps.{Steps}
 use Rattle.vectors.specs.Vectors.{Values, pair, single}
@@ -77,7 +78,7 @@ table =
     vectors 11 4 6 (answered (pair (minus 3) 2 (pos 4) 1)) ∷
     hits 11 4 6 1 11 hits-1-11 ∷
     vectors 4 1 4 (answered (pair (minus 3) 1 (pos 1) 1)) ∷
-    vectors 4 1 6 (refused 6) ∷
+    vectors 4 1 6 (refused 6 Nowhere) ∷
     vectors 12 6 6 (answered (single (pos 0) 2)) ∷
     vectors 12 6 8 (answered (pair (minus 6) 1 (pos 6) 1)) ∷
     vectors 9 0 4 (answered (single (pos 0) 1)) ∷

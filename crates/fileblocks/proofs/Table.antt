@@ -70,5 +70,5 @@ not-sealed k block = (λ e. to (ℕ-discrete (fourAt block 0) k) (not-true (seal
     from bad (inr e) = ap not e
 
 pub file-block-renders : (k size : ℕ) (block : List ℕ) → Renders (fileBlockTests k size block) (fileBlockTable k size block)
-unfolding fileBlockTests contents number
+unfolding fileBlockTests contents
 file-block-renders k size block = one (not-sealed k block) next one (not-zero block contentAt size contentBytes)

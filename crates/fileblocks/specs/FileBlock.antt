@@ -5,7 +5,8 @@ use mathlib.Core.List.{List, [], _∷_, _++_}
 use lib.Dec.{eqb}
 use lib.ListN.{length, getD, take, drop}
 use Rattle.rooms.specs.Lists.{UpTo, zeros}
-use Rattle.scope.specs.Refusal.{Tests, _when_, _andThen_, Check, Layout}
+use Rattle.scope.specs.Refusal.{Tests, _when_, _andThen_}
+use Rattle.scope.specs.declared.Reason.the-variants.{Check, Layout}
 
 -- "blocks of 512 bytes".
 abbrev pub fileBlockBytes : ℕ

@@ -1,5 +1,7 @@
 // One block of a saved map, a file block: 512 bytes, its number before its contents and its check behind; written, and judged.
 // Every function is proved. No function here is a public operation: each is an inner step of the crates above.
+use scope::Place;
+use scope::Reason;
 use scope::Verdict;
 ghost use mathlib.Core.Path.{_≡_};
 ghost use Prim.Native.Nat.{_+_, _*_, _≤_, _<_};
@@ -101,7 +103,7 @@ fn is_sealed(number: u32, block: &[u8]) -> bool
     four_at(block, CHECK_AT) == check(block)
 }
 
-// Inner step. What 01's table says of a block that is to have this number and to hold `size` bytes: 14 for the number or the check,
+// Inner step. What the table says of a block that is to have this number and to hold `size` bytes: 14 for the number or the check,
 // then 15 for the filling behind those bytes. A full block has none.
 pub fn judge_file_block(number: u32, size: usize, block: &[u8]) -> Verdict
     requires { ⌜ length (now block) ≡ fileBlockBytes ⌝ }
@@ -110,10 +112,10 @@ pub fn judge_file_block(number: u32, size: usize, block: &[u8]) -> Verdict
     let sealed = is_sealed(number, block);
     let filled = zeros_from(&block[CONTENT_AT..CHECK_AT], size);
     if !sealed {
-        return Verdict::Refused(14);
+        return Verdict::Refused(Reason::Check, Place::Nowhere);
     }
     if !filled {
-        return Verdict::Refused(15);
+        return Verdict::Refused(Reason::Layout, Place::Nowhere);
     }
     Verdict::Fine
 }

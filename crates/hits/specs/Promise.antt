@@ -10,14 +10,15 @@ use Rattle.scope.specs.declared.Source.{Source}
 use Rattle.scope.specs.declared.RunCell.{RunCell}
 use Rattle.scope.specs.Run.{cellsOf}
 use Rattle.scope.specs.Hit.{hitsFrom}
-use Rattle.scope.specs.Refusal.{Tests, _when_, _andThen_, Start, Room, complaint, runTests, sourceTests}
+use Rattle.scope.specs.Refusal.{Tests, _when_, _andThen_, number, complaint, runTests, sourceTests}
+use Rattle.scope.specs.declared.Reason.the-variants.{Start, Room}
 use Rattle.scope.specs.Reply.{Said, refused, answered, reply, stored}
 use Rattle.hits.specs.declared.FirstHit.{FirstHit}
 use Rattle.hits.specs.declared.FirstHit.the-variants.{At, Nothing, Refused}
 use Rattle.hits.specs.declared.Listing.{Listing}
 use Rattle.hits.specs.declared.Listing.the-variants.{Done, More, Refused as Refused·listing}
 
--- "Order. First hit and listing: 1, 2, 3, 4, 8". "8: starting cell not in the run".
+-- "First hit and listing: 1, 2, 3, 4, 8", with 16, 17, 18 for 2 (E1). "8: starting cell not in the run".
 unfoldable pub firstHitTests : Run → Source → RunCell → Tests
 firstHitTests run source start =
     runTests run andThen
@@ -35,11 +36,11 @@ abbrev pub first : List ℕ → Option ℕ
 first [] = none
 first (x ∷ xs) = some x
 
--- What a reply of the first-hit call says: a cell, "none", or a refusal's number.
+-- What a reply of the first-hit call says: a cell, "none", or a refusal's number and place.
 abbrev pub saysFirstHit : FirstHit → Said (Option ℕ)
 saysFirstHit (At cell) = answered (some (cell .0))
 saysFirstHit Nothing = answered none
-saysFirstHit (Refused n) = refused n
+saysFirstHit (Refused reason place) = refused (number reason) place
 
 -- "the reply is the smallest hit cell not below it, or none": the first of the hits from the start on.
 unfoldable pub FirstHitPromise : Run → Source → RunCell → FirstHit → Type 0
@@ -51,11 +52,11 @@ pub record Listed : Type 0 where
   pub count : ℕ
   pub next : Option ℕ
 
--- What a reply of the listing call says.
+-- What a reply of the listing call says: the answer, or a refusal's number and place.
 abbrev pub saysListing : Listing → Said Listed
 saysListing (Done n) = answered (record { count = n; next = none })
 saysListing (More n cell) = answered (record { count = n; next = some (cell .0) })
-saysListing (Refused·listing n) = refused n
+saysListing (Refused·listing reason place) = refused (number reason) place
 
 -- "until there are no more, or .. the lent room is full": of these hits, as many as the room holds are written and counted,
 -- and the first of the others is the next. "More is said exactly if such a hit is left, else done."

@@ -1,5 +1,7 @@
 // The hits of a source in a run: the first from a cell on, and their listing in a lent room.
 // Every function is proved. `first_hit` and `list_hits` are the public operations, and they ask nothing of their caller.
+use scope::Place;
+use scope::Reason;
 use scope::Run;
 use scope::RunCell;
 use scope::Source;
@@ -18,8 +20,8 @@ pub enum FirstHit {
     At(RunCell),
     // No cell from the start on is hit.
     Nothing,
-    // The refusal's number.
-    Refused(u8),
+    // Why it is refused, and where.
+    Refused(Reason, Place),
 }
 
 // The reply of the listing call.
@@ -28,35 +30,35 @@ pub enum Listing {
     Done(usize),
     // So many hits were written, and the next one is this.
     More(usize, RunCell),
-    // The refusal's number.
-    Refused(u8),
+    // Why it is refused, and where.
+    Refused(Reason, Place),
 }
 
 // What the tests come to that both calls begin with: the run, the source, the start.
 fn judge(run: Run, source: Source, start: RunCell) -> Verdict
     ensures { λ r. ⌜ r ≡ verdict (complaint (firstHitTests run source start)) ⌝ }
 {
-    if let Verdict::Refused(number) = scope::judge_run(run) {
-        return Verdict::Refused(number);
+    if let Verdict::Refused(reason, place) = scope::judge_run(run) {
+        return Verdict::Refused(reason, place);
     }
-    if let Verdict::Refused(number) = scope::judge_source(source) {
-        return Verdict::Refused(number);
+    if let Verdict::Refused(reason, place) = scope::judge_source(source) {
+        return Verdict::Refused(reason, place);
     }
     let all = scope::cells(run);
     if all <= start.0 {
-        return Verdict::Refused(8);
+        return Verdict::Refused(Reason::Start, Place::Nowhere);
     }
     Verdict::Fine
 }
 
 // Public operation. The smallest hit cell of a run that is not below the start. A point of the source is carried down the
 // division sequence of 002 into the window, so that the cost is O(log p) however far the hit is.
-// Refused, in this order: 1, 2, 3 for the run, 4 for the source, 8 for the start.
+// Refused, in this order: 1, 16, 17, 18, 3 for the run, 4 for the source, 8 for the start.
 pub fn first_hit(run: Run, source: Source, start: RunCell) -> FirstHit
     ensures { λ r. ⌜ FirstHitPromise run source start r ⌝ }
 {
-    if let Verdict::Refused(number) = judge(run, source, start) {
-        return FirstHit::Refused(number);
+    if let Verdict::Refused(reason, place) = judge(run, source, start) {
+        return FirstHit::Refused(reason, place);
     }
     let cell = search::find_hit(run, source, start);
     let all = scope::cells(run);
@@ -112,15 +114,15 @@ fn write_hits(run: Run, source: Source, start: RunCell, room: &mut [u64]) -> Lis
 
 // Public operation. The hit cells of a run that are not below the start, written into the room in rising order; what comes
 // back is their count and, if one is left that did not fit, the next. Nothing is stored before the last test is passed.
-// Refused, in this order: 1, 2, 3 for the run, 4 for the source, 8 for the start, 9 for an empty room.
+// Refused, in this order: 1, 16, 17, 18, 3 for the run, 4 for the source, 8 for the start, 9 for an empty room.
 pub fn list_hits(run: Run, source: Source, start: RunCell, room: &mut [u64]) -> Listing
     ensures { λ r. ⌜ ListingPromise run source start (now (room .entry)) r (now (room .exit)) ⌝ }
 {
-    if let Verdict::Refused(number) = judge(run, source, start) {
-        return Listing::Refused(number);
+    if let Verdict::Refused(reason, place) = judge(run, source, start) {
+        return Listing::Refused(reason, place);
     }
     if room.len() == 0 {
-        return Listing::Refused(9);
+        return Listing::Refused(Reason::Room, Place::Nowhere);
     }
     write_hits(run, source, start, room)
 }

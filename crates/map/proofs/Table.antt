@@ -4,7 +4,6 @@ use mathlib.Core.List.{List}
 use lib.ListN.{length}
 use Rattle.scope.specs.declared.Run.{Run}
 use Rattle.scope.specs.Run.{ceiling, cellsOf}
-use Rattle.scope.specs.Refusal.{number}
 use Rattle.scope.proofs.Rendered.{Renders, _next_, one}
 use Rattle.scope.proofs.Table.{unequal, run-renders}
 use Rattle.sources.specs.Entry.{entriesOf}
@@ -12,9 +11,9 @@ use Rattle.sources.proofs.Table.{sources-renders}
 use Rattle.map.specs.Promise.{mapTests}
 use Rattle.map.specs.Table.{mapTable}
 
--- "Map: 1, 2, 3, 10, then source by source 4 before 7, then 9."
+-- "Map: 1, 2, 3, 10, then source by source 4 before 7, then 9", with 16, 17, 18 for 2
 pub map-renders : (run : Run) (periods weights map : List ℕ) → Renders (mapTests ceiling run periods weights map) (mapTable run periods weights map)
-unfolding mapTests number
+unfolding mapTests
 map-renders run periods weights map =
     run-renders run next
     one (unequal (length periods) (length weights)) next

@@ -1,19 +1,23 @@
 -- The promise of the map call, at any ceiling c: what makes it, that no second reply and no second map fits, and that one does.
 -- Assumes nothing.
 use Prim.Native.Nat.{ℕ}
-use mathlib.Core.Path.{_≡_, refl, sym, _∙_}
+use mathlib.Core.Path.{_≡_, refl, sym, ap₂, _∙_}
+use mathlib.Core.Logic.{_⊎_, inl, inr}
 use mathlib.Core.List.{List}
 use Rattle.scope.specs.declared.Run.{Run}
-use Rattle.scope.specs.Refusal.{complaint}
-use Rattle.scope.specs.Reply.{Said, answered, refused, reply, stored}
-use Rattle.scope.proofs.Judged.{Fails, Passes, refuse-reply, refuse-stored, grant-reply, grant-stored}
+use Rattle.scope.specs.Refusal.{Complaint}
+use Rattle.scope.specs.declared.Reason.{Reason}
+use Rattle.scope.specs.declared.Place.{Place}
+use Rattle.scope.specs.Reply.{answered}
+use Rattle.scope.proofs.Judged.{Fails, Passes, same-refusal, refuse-reply, refuse-stored, grant-reply, grant-stored}
+use Rattle.scope.proofs.Rendered.{judged}
 use Rattle.map.specs.declared.Added.{Added}
 use Rattle.map.specs.declared.Added.the-variants.{Done, Refused}
 use Rattle.sources.specs.Entry.{entriesOf}
 use Rattle.map.specs.Promise.{mapTests, added, saysMap, MapPromiseAt}
 
 module _ {c : ℕ} {run : Run} {periods weights map : List ℕ} where
-  pub refused-call : {n : ℕ} → Fails (mapTests c run periods weights map) n → MapPromiseAt c run periods weights map (Refused n) map
+  pub refused-call : {reason : Reason} {place : Place} → Fails (mapTests c run periods weights map) reason place → MapPromiseAt c run periods weights map (Refused reason place) map
   refused-call f = record { says = refuse-reply tt f; stores = refuse-stored map (added c run (entriesOf periods weights) map) f }
 
   pub granted-call : {after : List ℕ} → Passes (mapTests c run periods weights map) → after ≡ added c run (entriesOf periods weights) map → MapPromiseAt c run periods weights map Done after
@@ -26,24 +30,18 @@ module _ {c : ℕ} {run : Run} {periods weights map : List ℕ} where
 -- an answer is told by what it says
 pub says-map-injective : (a b : Added) → saysMap a ≡ saysMap b → a ≡ b
 says-map-injective Done Done e = refl
-says-map-injective Done (Refused n) e = cc
-says-map-injective (Refused n) Done e = cc
-says-map-injective (Refused n) (Refused m) e = cc
+says-map-injective Done (Refused reason place) e = cc
+says-map-injective (Refused reason place) Done e = cc
+says-map-injective (Refused reason place) (Refused reason′ place′) e = let s = same-refusal e in ap₂ Refused (s .0) (s .1)
 
 -- "That no second reply fits is proved."
 pub map-unique : {c : ℕ} {run : Run} {periods weights map : List ℕ} {a b : Added} {after other : List ℕ} → MapPromiseAt c run periods weights map a after → MapPromiseAt c run periods weights map b other → (a ≡ b) × (after ≡ other)
 map-unique {c} {run} {periods} {weights} {map} {a} {b} m n = (says-map-injective a b (m .says ∙ sym (n .says)), m .stores ∙ sym (n .stores))
 
 -- And that one does.
-abbrev answerOf : Said (Unit {0}) → Added
-answerOf (answered done) = Done
-answerOf (refused n) = Refused n
-
-says-answer : (s : Said (Unit {0})) → saysMap (answerOf s) ≡ s
-says-answer (answered done) = refl
-says-answer (refused n) = refl
-
 pub map-exists : (c : ℕ) (run : Run) (periods weights map : List ℕ) → (answer : Added) × (after : List ℕ) × MapPromiseAt c run periods weights map answer after
-map-exists c run periods weights map =
-    let o = complaint (mapTests c run periods weights map) in
-    (answerOf (reply o tt), stored o map (added c run (entriesOf periods weights) map), record { says = says-answer (reply o tt); stores = refl })
+map-exists c run periods weights map = go (judged (mapTests c run periods weights map))
+  where
+    go : Passes (mapTests c run periods weights map) ⊎ ((b : Complaint) × Fails (mapTests c run periods weights map) (b .reason) (b .place)) → (answer : Added) × (after : List ℕ) × MapPromiseAt c run periods weights map answer after
+    go (inl p) = (Done, _, granted-call p refl)
+    go (inr f) = (Refused (f .0 .reason) (f .0 .place), map, refused-call (f .1))

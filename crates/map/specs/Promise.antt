@@ -8,14 +8,16 @@ use lib.ListN.{length}
 use Rattle.scope.specs.declared.Run.{Run}
 use Rattle.scope.specs.Run.{ceiling, cellsOf}
 use Rattle.scope.specs.Hit.{isHit}
-use Rattle.scope.specs.Refusal.{Tests, _when_, _andThen_, Room, Lists, complaint, runTests}
+use Rattle.scope.specs.Refusal.{Tests, _when_, _andThen_, number, complaint, runTests}
+use Rattle.scope.specs.declared.Reason.the-variants.{Room, Lists}
 use Rattle.sources.specs.Entry.{Entry, entriesOf, listTests}
 use Rattle.scope.specs.Reply.{Said, refused, answered, reply, stored}
 use Rattle.map.specs.Sum.{raised}
 use Rattle.map.specs.declared.Added.{Added}
 use Rattle.map.specs.declared.Added.the-variants.{Done, Refused}
 
--- "Map: 1, 2, 3, 10, then source by source 4 before 7, then 9". "10: period and weight lists of unequal length", "9: map .. not of the exact length".
+-- "Map: 1, 2, 3, 10, then source by source 4 before 7, then 9", with 16, 17, 18 for 2 (E1).
+-- "10: period and weight lists of unequal length", "9: map .. not of the exact length".
 unfoldable pub mapTests : ℕ → Run → List ℕ → List ℕ → List ℕ → Tests
 mapTests c run periods weights map =
     runTests run andThen
@@ -32,10 +34,10 @@ weightAt run (entry ∷ entries) x = cond (isHit run (entry .source) x) (entry .
 unfoldable pub added : ℕ → Run → List Entry → List ℕ → List ℕ
 added c run entries cells = raised c (weightAt run entries) 0 cells
 
--- 01's number for each case of the answer.
+-- What a reply of the map call says: that it is done, or a refusal's number and place.
 abbrev pub saysMap : Added → Said (Unit {0})
 saysMap Done = answered tt
-saysMap (Refused number) = refused number
+saysMap (Refused reason place) = refused (number reason) place
 
 -- The promise of the map call at a ceiling c: what it says, and what every cell holds afterwards.
 pub record MapPromiseAt (c : ℕ) (run : Run) (periods weights map : List ℕ) (answer : Added) (after : List ℕ) : Type 0 where

@@ -9,10 +9,10 @@ use Rattle.scope.specs.Table.{Row, _given_, runTable}
 use Rattle.sources.specs.Entry.{entriesOf}
 use Rattle.sources.specs.Table.{sourcesTable}
 
--- "Map: 1, 2, 3, 10, then source by source 4 before 7, then 9."
+-- "Map: 1, 2, 3, 10, then source by source 4 before 7, then 9", with 16, 17, 18 for 2 (E1).
 abbrev pub mapTable : Run → (periods weights map : List ℕ) → List Row
 mapTable run periods weights map =
     runTable run ++
     10 given (length periods ≢ length weights) ∷
-    sourcesTable (entriesOf periods weights) ++
+    sourcesTable 1 (entriesOf periods weights) ++
     9 given (length map ≢ cellsOf run) ∷ []

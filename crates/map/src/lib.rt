@@ -2,6 +2,8 @@
 // Every function is proved. `add_to_map` is the one public operation here, and it asks nothing of its caller.
 use scope::BlockCell;
 use scope::CEILING;
+use scope::Place;
+use scope::Reason;
 use scope::Run;
 use scope::Source;
 use scope::Verdict;
@@ -22,8 +24,8 @@ ghost use Rattle.map.specs.Inner.{ValidCall, Crossing, AddsLeft, chosen,
 pub enum Added {
     // Every cell holds its new value.
     Done,
-    // The refusal's number; no cell was touched.
-    Refused(u8),
+    // Why it is refused, and where; no cell was touched.
+    Refused(Reason, Place),
 }
 
 // Maps longer than this are gone through in blocks by the sources with short periods.
@@ -216,23 +218,23 @@ fn add_all(run: Run, periods: &[u32], weights: &[u32], map: &mut [u8])
 }
 
 // Public operation. Adds to every cell of a run's map the weights of all listed sources that hit it, up to the ceiling.
-// Refused, in this order: 1, 2, 3 for the run, 10 for lists of unequal length, 4 or 7 for the first source at fault, 9 for a
-// map not of the run's length. All of that is looked at before the first store.
+// Refused, in this order: 1, 16, 17, 18, 3 for the run, 10 for lists of unequal length, 4 or 7 for the first source at fault, with its
+// place, 9 for a map not of the run's length. All of that is looked at before the first store.
 pub fn add_to_map(run: Run, periods: &[u32], weights: &[u32], map: &mut [u8]) -> Added
     ensures { λ r. ⌜ MapPromise run (now (periods .entry)) (now (weights .entry)) (now (map .entry)) r (now (map .exit)) ⌝ }
 {
-    if let Verdict::Refused(number) = scope::judge_run(run) {
-        return Added::Refused(number);
+    if let Verdict::Refused(reason, place) = scope::judge_run(run) {
+        return Added::Refused(reason, place);
     }
     if periods.len() != weights.len() {
-        return Added::Refused(10);
+        return Added::Refused(Reason::Lists, Place::Nowhere);
     }
-    if let Verdict::Refused(number) = sources::judge_entries(periods, weights) {
-        return Added::Refused(number);
+    if let Verdict::Refused(reason, place) = sources::judge_entries(periods, weights) {
+        return Added::Refused(reason, place);
     }
     let cells = scope::cells(run);
     if map.len() as u64 != cells {
-        return Added::Refused(9);
+        return Added::Refused(Reason::Room, Place::Nowhere);
     }
     add_all(run, periods, weights, map);
     Added::Done

@@ -3,5 +3,6 @@ pub mod Sources
 pub mod Mapped
 pub mod Longest
 pub mod Outputs
+pub mod Refusals
 pub mod Unique
 pub mod Example

@@ -1,17 +1,22 @@
 -- The output of a text: from what was written into the blank room, and from what the text says. Assumes nothing.
-use Prim.Native.Nat.{ℕ, _+_, _-_, _≤_}
+use Prim.Native.Nat.{ℕ, _+_, _-_, _≤_, _<_, _^_}
 use native.Mathlib.Omega.{arith}
 use native.Mathlib.Nat.{zero-add}
 use mathlib.Core.Path.{_≡_, refl, sym, ap, _∙_, subst}
 use mathlib.Core.List.{List, [], _∷_, _++_}
-use lib.ListN.{length, take, drop, length-take}
+use lib.ListN.{length, take, drop, length-take, length-append}
 use lib.Seq.{length-take-le}
 use borrow.Author.Tests.{ltb-false}
 use Rattle.rooms.specs.Lists.{zeros}
 use Rattle.rooms.specs.Inner.{Written}
-use Rattle.rooms.proofs.Lists.{length-zeros, padded-within, padded-is, up-to}
-use Rattle.decimal.specs.Digits.{largest}
-use Rattle.words.proofs.Writing.{line-long}
+use Rattle.rooms.proofs.Lists.{padded-within, padded-is}
+use Rattle.rooms.proofs.Written.{written-append}
+use Rattle.decimal.specs.Digits.{digits}
+use Rattle.decimal.proofs.Laws.{length-le}
+use Rattle.scope.specs.declared.Reason.{Reason}
+use Rattle.scope.specs.declared.Place.{Place}
+use Rattle.scope.specs.declared.Place.the-variants.{AtSource}
+use Rattle.scope.specs.Refusal.{number}
 use Rattle.scope.specs.declared.Run.{Run}
 use Rattle.scope.specs.Run.{cellsOf}
 use Rattle.sources.specs.Entry.{entriesOf}
@@ -20,14 +25,14 @@ use Rattle.scope.proofs.Judged.{Passes}
 use Rattle.scope.proofs.Limits.{passes-when, passes-first, passes-then, valid-run}
 use Rattle.sources.specs.Lists.{periodsOf, weightsOf}
 use Rattle.sources.proofs.Entries.{periods-length, weights-length}
-use Rattle.words.specs.Line.{line}
+use Rattle.words.specs.Line.{fields, line}
 use Rattle.text.specs.Form.{Content, Spells}
 use Rattle.text.specs.Promise.{mostSources, mostCells, saysText, replyTo, handed, textTests, TextPromise, sourcesOf}
 use Rattle.text.specs.declared.Input.{Input}
 use Rattle.text.specs.declared.Answer.the-variants.{Read, Refused}
 use Rattle.text.proofs.Unique.{sources-handed, accepted}
 use Rattle.report.specs.declared.Output.{Output}
-use Rattle.report.specs.Report.{refusedWord, wholeReport, printed, reportOf}
+use Rattle.report.specs.Report.{refusedWord, sourceWord, refusalReport, wholeReport, printed, reportOf}
 use Rattle.report.specs.Promise.{roomBytes, Prints, ReportPromise}
 use Rattle.report.specs.Inner.{ValidInput}
 
@@ -42,10 +47,26 @@ prints {room} {bytes} {next} {after} e w =
       begins = w .kept ∙ ap (λ k. bytes ++ drop k room) count ∙ ap (λ b. bytes ++ drop (length bytes) b) e ∙ sym (padded-is roomBytes bytes);
     }
 
--- a word of seven letters and a number fit
-pub refusal-fits : (word : List ℕ) (n : ℕ) {room : List ℕ} → length word ≡ 7 → n ≤ largest → room ≡ zeros roomBytes → 0 + length (line word (n ∷ [])) ≤ length room
-refusal-fits word n seven small e =
-    omega (arith, line-long word (n ∷ []) (up-to (n ∷ []) (small, tt)), ap length e, length-zeros roomBytes)
+-- ---- the line of a refusal
+
+-- a number of 64 bits has at most 20 digits
+pub digits-64 : (n : ℕ) → n < 2 ^ 64 → length (digits n) ≤ 20
+digits-64 n h = length-le 19 n (omega arith)
+
+-- a word and a number fit behind so many bytes
+pub line-fits : {size : ℕ} (at : ℕ) (word : List ℕ) (n : ℕ) → size ≡ roomBytes → at + length word ≤ 900000 → n < 2 ^ 64 → at + length (line word (n ∷ [])) ≤ size
+unfolding line fields
+line-fits at word n e h small =
+    omega (arith, length-append word (32 ∷ digits n ++ (10 ∷ [])), length-append (digits n) (10 ∷ []), digits-64 n small)
+
+-- behind the word and a space the number fits
+pub number-fits : {size : ℕ} (at n : ℕ) → size ≡ roomBytes → at ≤ 900000 → n < 2 ^ 64 → at + length (digits n) ≤ size
+number-fits at n e h small = omega (arith, digits-64 n small)
+
+-- the word, the number, and the place
+pub at-source-written : {room named counted after : List ℕ} {at next end : ℕ} (n k : ℕ) → Written room 0 (refusedWord ++ (32 ∷ [])) at named → Written named at (digits n) next counted → Written counted next (line (32 ∷ sourceWord) (k ∷ [])) end after → Written room 0 (refusalReport n (AtSource k)) end after
+unfolding refusalReport line
+at-source-written n k word number place = written-append (written-append word number) place
 
 -- ---- the text
 
@@ -99,10 +120,10 @@ module _ {text : List ℕ} {input : Input} (p : TextPromise text input) where
         rw all (ap (wholeReport run) (sources-handed text input p) ∙ ap (λ r. printed r (handed (p .content))) (sym replied)) in
         record { content = p .content; reads = p .reads; says = subst (λ bytes. Prints bytes output) whole h }
 
-  pub reports-refusal : {n : ℕ} {output : Output} → input .answer ≡ Refused n → Prints (line refusedWord (n ∷ [])) output → ReportPromise text output
+  pub reports-refusal : {reason : Reason} {place : Place} {output : Output} → input .answer ≡ Refused reason place → Prints (refusalReport (number reason) place) output → ReportPromise text output
   unfolding reportOf printed
-  reports-refusal {n} {output} e h =
-      let replied : replyTo (p .content) ≡ refused n = sym (p .says) ∙ ap saysText e in
+  reports-refusal {reason} {place} {output} e h =
+      let replied : replyTo (p .content) ≡ refused (number reason) place = sym (p .says) ∙ ap saysText e in
       record {
         content = p .content;
         reads = p .reads;

@@ -9,8 +9,11 @@ use Rattle.rooms.specs.Lists.{zeros}
 use Rattle.scope.specs.declared.Run.{Run}
 use Rattle.scope.specs.Run.{ceiling, cellsOf}
 use Rattle.scope.specs.Hit.{hitsFrom}
+use Rattle.scope.specs.declared.Place.{Place}
+use Rattle.scope.specs.declared.Place.the-variants.{Nowhere, AtSource}
 use Rattle.scope.specs.Reply.{Said, refused, answered}
 use Rattle.sources.specs.Entry.{Entry}
+use Rattle.decimal.specs.Digits.{digits}
 use Rattle.words.specs.Line.{line}
 use Rattle.text.specs.Form.{runWord, srcWord, runNumbers, Content}
 use Rattle.text.specs.Promise.{replyTo, handed}
@@ -27,6 +30,15 @@ endWord = 101 ∷ 110 ∷ 100 ∷ []
 -- The word `refused`.
 abbrev pub refusedWord : List ℕ
 refusedWord = 114 ∷ 101 ∷ 102 ∷ 117 ∷ 115 ∷ 101 ∷ 100 ∷ []
+
+-- The word `source`.
+abbrev pub sourceWord : List ℕ
+sourceWord = 115 ∷ 111 ∷ 117 ∷ 114 ∷ 99 ∷ 101 ∷ []
+
+-- "the list program prints `refused N` or `refused N source K`" (E1).
+unfoldable pub refusalReport : ℕ → Place → List ℕ
+refusalReport n Nowhere = line refusedWord (n ∷ [])
+refusalReport n (AtSource k) = refusedWord ++ (32 ∷ digits n ++ (32 ∷ line sourceWord (k ∷ [])))
 
 -- "`run` repeats the run and adds its cells".
 unfoldable pub runReport : Run → List ℕ
@@ -71,9 +83,9 @@ cellsReport run entries = mapReport 0 (reportedMap run entries) ++ endReport (re
 unfoldable pub wholeReport : Run → List Entry → List ℕ
 wholeReport run entries = runReport run ++ (srcReport run 1 entries ++ cellsReport run entries)
 
--- "it prints `refused N` and nothing more", or the whole report.
+-- It prints the refusal "and nothing more", or the whole report.
 unfoldable pub printed : Said Run → List Entry → List ℕ
-printed (refused n) entries = line refusedWord (n ∷ [])
+printed (refused n place) entries = refusalReport n place
 printed (answered run) entries = wholeReport run entries
 
 -- What is printed of a text, by what it says.

@@ -1,6 +1,8 @@
 // What the list program prints: a report on a run and its sources, or the refusal.
 // Every function is proved. `report` is the one public operation here, and it asks nothing of its caller.
 use hits::Listing;
+use scope::Place;
+use scope::Reason;
 use scope::Run;
 use scope::RunCell;
 use scope::Source;
@@ -14,9 +16,10 @@ ghost use Rattle.rooms.specs.Inner.{Written};
 ghost use Rattle.words.specs.Line.{line};
 ghost use Rattle.scope.specs.Run.{ValidRun, ValidSource, cellsOf};
 ghost use Rattle.scope.specs.Hit.{hitsFrom};
+ghost use Rattle.scope.specs.Refusal.{number};
 ghost use Rattle.sources.specs.Entry.{entriesOf};
 ghost use Rattle.text.specs.Promise.{mostSources, mostCells};
-ghost use Rattle.report.specs.Report.{runReport, entryReport, srcReport, cellReport, mapReport, above, endReport, reportedMap, cellsReport, wholeReport, refusedWord};
+ghost use Rattle.report.specs.Report.{runReport, entryReport, srcReport, cellReport, mapReport, above, endReport, reportedMap, cellsReport, wholeReport, refusalReport};
 ghost use Rattle.report.specs.Promise.{roomBytes, Prints, ReportPromise};
 ghost use Rattle.report.specs.Inner.{ValidInput};
 
@@ -224,13 +227,29 @@ fn report_run(run: Run, periods: &[u32], weights: &[u32]) -> Output
     Output { length, bytes }
 }
 
+// Writes the line of a refusal at the beginning of the room and answers where it ends: its number, and where a source is at fault
+// that source's place.
+fn write_refusal(room: &mut [u8], refusal: u64, place: Place) -> usize
+    requires { ⌜ length (now room) ≡ roomBytes ⌝ }
+    ensures { λ r. ⌜ Written (now (room .entry)) 0 (refusalReport refusal place) r (now (room .exit)) ⌝ }
+{
+    match place {
+        Place::Nowhere => words::write_line(room, 0, b"refused", &[refusal]),
+        Place::AtSource(k) => {
+            let word = rooms::write_bytes(room, 0, b"refused ");
+            let at = decimal::write_number(room, word, refusal);
+            words::write_line(room, at, b" source", &[k])
+        }
+    }
+}
+
 // The output that is a refusal.
-fn report_refusal(number: u8) -> Output
-    ensures { λ r. ⌜ Prints (line refusedWord (number ∷ [])) r ⌝ }
+fn report_refusal(reason: Reason, place: Place) -> Output
+    ensures { λ r. ⌜ Prints (refusalReport (number reason) place) r ⌝ }
 {
     let mut bytes = blank();
-    let numbers = [rooms::wide(number)];
-    let length = words::write_line(&mut bytes, 0, b"refused", &numbers);
+    let refusal = rooms::wide(scope::number_of(reason));
+    let length = write_refusal(&mut bytes, refusal, place);
     Output { length, bytes }
 }
 
@@ -245,6 +264,6 @@ pub fn report(text: &[u8]) -> Output
     let weights = input.weights;
     match answer {
         Answer::Read(run) => report_run(run, &periods[0..count], &weights[0..count]),
-        Answer::Refused(number) => report_refusal(number),
+        Answer::Refused(reason, place) => report_refusal(reason, place),
     }
 }

@@ -7,6 +7,8 @@ use native.Mathlib.Numerals.{add-one}
 use native.Mathlib.Omega.{arith}
 use lib.ListN.{take, drop}
 use Rattle.scope.specs.Refusal.{complaint}
+use Rattle.scope.specs.declared.Reason.{Reason}
+use Rattle.scope.specs.declared.Place.{Place}
 use Rattle.scope.specs.Inner.{verdict}
 use Rattle.scope.specs.declared.Verdict.{Verdict}
 use Rattle.scope.specs.declared.Verdict.the-variants.{Fine, Refused}
@@ -43,14 +45,14 @@ judged-more {size} {k} {file} {v} s h j e = record {
 }
 
 -- it fails: so do all together, whatever comes behind it
-fails-on : {n : ℕ} (size : ℕ) (file : List ℕ) (k d : ℕ) → Fails (laterFileBlocksTests size file k) n → Fails (laterFileBlocksTests size file (k + d)) n
+fails-on : {reason : Reason} {place : Place} (size : ℕ) (file : List ℕ) (k d : ℕ) → Fails (laterFileBlocksTests size file k) reason place → Fails (laterFileBlocksTests size file (k + d)) reason place
 unfolding laterFileBlocksTests
 fails-on size file k zero f = rw (add-zero k) f
 fails-on size file k (suc d) f = rw (add-suc k d) (first (fails-on size file k d f))
 
-pub judged-fails : {size k n : ℕ} {file : List ℕ} {v : Verdict} → CellsJudged size file k → contentBytes * k < size → NextJudged size file k v → v ≡ Refused n → Fails (laterFileBlocksTests size file (fileBlocksFor size)) n
+pub judged-fails : {size k : ℕ} {reason : Reason} {place : Place} {file : List ℕ} {v : Verdict} → CellsJudged size file k → contentBytes * k < size → NextJudged size file k v → v ≡ Refused reason place → Fails (laterFileBlocksTests size file (fileBlocksFor size)) reason place
 unfolding laterFileBlocksTests
-judged-fails {size} {k} {n} {file} {v} s h j e =
+judged-fails {size} {k} {file = file} s h j e =
     let b = more-file-blocks h in
     let all : suc k + (fileBlocksFor size - suc k) ≡ fileBlocksFor size = omega arith in
     rw all at (fails-on size file (suc k) (fileBlocksFor size - suc k) (then (s .passes) (blamed (as-file-block j) e)))

@@ -5,6 +5,8 @@ use mathlib.Core.List.{List}
 use lib.ListN.{length}
 use Rattle.scope.specs.declared.Run.{Run}
 use Rattle.scope.specs.Refusal.{runTests}
+use Rattle.scope.specs.declared.Reason.{Reason}
+use Rattle.scope.specs.declared.Place.{Place}
 use Rattle.scope.specs.Reply.{answered}
 use Rattle.scope.proofs.Judged.{Fails, Passes, refuse-reply, refuse-stored, grant-reply, grant-stored}
 use Rattle.scope.proofs.Limits.{passes-first, passes-then}
@@ -14,13 +16,13 @@ use Rattle.saved.specs.declared.Loaded.the-variants.{Of, Refused as Refu
 use Rattle.saved.specs.File.{fileBlocksFor, fileLength, bytesFor, fileOf, fileBlockAt, runOf, mapOf, headingTests, laterFileBlocksTests, fileTests, savingTests, readingTests}
 use Rattle.saved.specs.Promise.{SavingPromise, ReadingPromise}
 
-pub refuse-saving : {run : Run} {map file : List ℕ} {n : ℕ} → Fails (savingTests run map file) n → SavingPromise run map file (Refused·saved n) file
+pub refuse-saving : {run : Run} {map file : List ℕ} {reason : Reason} {place : Place} → Fails (savingTests run map file) reason place → SavingPromise run map file (Refused·saved reason place) file
 refuse-saving f = record { says = refuse-reply tt f; stores = refuse-stored _ _ f }
 
 pub grant-saving : {run : Run} {map file after : List ℕ} → Passes (savingTests run map file) → after ≡ fileOf run map → SavingPromise run map file Done after
 grant-saving p e = record { says = grant-reply tt p; stores = e ∙ grant-stored _ _ p }
 
-pub refuse-reading : {file map : List ℕ} {n : ℕ} → Fails (readingTests file map) n → ReadingPromise file map (Refused·loaded n) map
+pub refuse-reading : {file map : List ℕ} {reason : Reason} {place : Place} → Fails (readingTests file map) reason place → ReadingPromise file map (Refused·loaded reason place) map
 refuse-reading f = record { says = refuse-reply _ f; stores = refuse-stored _ _ f }
 
 pub grant-reading : {run : Run} {file map after : List ℕ} → Passes (readingTests file map) → run ≡ runOf file → after ≡ mapOf file → ReadingPromise file map (Of run) after

@@ -6,7 +6,8 @@ use lib.Dec.{eqb}
 use lib.ListN.{length, getD, take, drop}
 use Rattle.scope.specs.declared.Run.{Run}
 use Rattle.scope.specs.Run.{runWith, cellsOf}
-use Rattle.scope.specs.Refusal.{Tests, _when_, _andThen_, nothing, runTests, Room, FileBlocks, Layout}
+use Rattle.scope.specs.Refusal.{Tests, _when_, _andThen_, nothing, runTests}
+use Rattle.scope.specs.declared.Reason.the-variants.{Room, FileBlocks, Layout}
 use Rattle.fileblocks.specs.FileBlock.{fileBlockBytes, contentBytes, four, fourAt, fileBlockOf, contents, allZero, fileBlockTests}
 
 -- "Block 0: byte 4 = 1 (version), 5-7 zero, then four 32-bit numbers at 8, 12, 16, 20: window, interval, first line, last line".
@@ -58,7 +59,7 @@ bytesIn file = firstJoined λ k. contents (fileBlockAt file (suc k))
 unfoldable pub mapOf : List ℕ → List ℕ
 mapOf file = take (cellsOf (runOf file)) (bytesIn file (fileBlocksFor (bytesFor (runOf file))))
 
--- "Saving: 1, 2, 3, 9". "9: .. map or file room not of the exact length".
+-- "Saving: 1, 2, 3, 9", with 16, 17, 18 for 2 (E1). "9: .. map or file room not of the exact length".
 unfoldable pub savingTests : Run → List ℕ → List ℕ → Tests
 savingTests run map file =
     runTests run andThen
@@ -77,7 +78,8 @@ unfoldable pub laterFileBlocksTests : ℕ → List ℕ → ℕ → Tests
 laterFileBlocksTests size file zero = nothing
 laterFileBlocksTests size file (suc k) = laterFileBlocksTests size file k andThen fileBlockTests (suc k) (size - contentBytes * k) (fileBlockAt file (suc k))
 
--- "Reading: 13 for whole blocks, then block 0 for 14 and 15, then 1, 2, 3, 13 for the count, then the other blocks".
+-- "Reading: 13 for whole blocks, then block 0 for 14 and 15, then 1, 2, 3, 13 for the count, then the other blocks",
+-- with 16, 17, 18 for 2 (E1).
 unfoldable pub fileTests : List ℕ → Tests
 fileTests file =
     let run = runOf file in

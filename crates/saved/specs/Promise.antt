@@ -3,7 +3,7 @@ use Prim.Native.Nat.{ℕ}
 use mathlib.Core.Path.{_≡_}
 use mathlib.Core.List.{List}
 use Rattle.scope.specs.declared.Run.{Run}
-use Rattle.scope.specs.Refusal.{complaint}
+use Rattle.scope.specs.Refusal.{number, complaint}
 use Rattle.scope.specs.Reply.{Said, refused, answered, reply, stored}
 use Rattle.saved.specs.declared.Saved.{Saved}
 use Rattle.saved.specs.declared.Saved.the-variants.{Done, Refused as Refused·saved}
@@ -11,15 +11,15 @@ use Rattle.saved.specs.declared.Loaded.{Loaded}
 use Rattle.saved.specs.declared.Loaded.the-variants.{Of, Refused as Refused·loaded}
 use Rattle.saved.specs.File.{fileOf, runOf, mapOf, savingTests, readingTests}
 
--- What a reply to saving says: that it is done, or a refusal's number.
+-- What a reply to saving says: that it is done, or a refusal's number and place.
 abbrev pub saysSaving : Saved → Said (Unit {0})
 saysSaving Done = answered tt
-saysSaving (Refused·saved n) = refused n
+saysSaving (Refused·saved reason place) = refused (number reason) place
 
--- What a reply to reading says: the run, or a refusal's number.
+-- What a reply to reading says: the run, or a refusal's number and place.
 abbrev pub saysReading : Loaded → Said Run
 saysReading (Of run) = answered run
-saysReading (Refused·loaded n) = refused n
+saysReading (Refused·loaded reason place) = refused (number reason) place
 
 -- Saving: a run and its map are stored in the file room, or it is refused and the room is as it was.
 pub record SavingPromise (run : Run) (map file : List ℕ) (answer : Saved) (after : List ℕ) : Type 0 where

@@ -8,6 +8,8 @@ use fileblocks::judge_file_block;
 use fileblocks::put_four;
 use fileblocks::write_file_block;
 use fileblocks::zeros_from;
+use scope::Place;
+use scope::Reason;
 use scope::Run;
 use scope::Verdict;
 ghost use mathlib.Core.Path.{_≡_};
@@ -26,16 +28,16 @@ ghost use Rattle.saved.specs.Promise.{saysReading, SavingPromise, Readin
 pub enum Saved {
     // The file was written.
     Done,
-    // Nothing was: 01's number of the reason.
-    Refused(u8),
+    // Nothing was: why it is refused, and where.
+    Refused(Reason, Place),
 }
 
 // What reading a file came to.
 pub enum Loaded {
     // The map was filled; it belongs to this run.
     Of(Run),
-    // Nothing was: 01's number of the reason.
-    Refused(u8),
+    // Nothing was: why it is refused, and where.
+    Refused(Reason, Place),
 }
 
 // Block 0 holds so many bytes: the version, three spare bytes and the run's four numbers.
@@ -88,21 +90,21 @@ fn write_cells(map: &[u8], room: &mut [u8])
 }
 
 // Public operation. Saves a run's map in a file room of the exact length: done, or refused with the room as it was.
-// Refused, in this order: 1, 2, 3 for the run, 9 for a map or a room not of the exact length. Every test comes before the first
+// Refused, in this order: 1, 16, 17, 18, 3 for the run, 9 for a map or a room not of the exact length. Every test comes before the first
 // byte is written, and then every byte is.
 pub fn save(run: Run, map: &[u8], file: &mut [u8]) -> Saved
     ensures { λ r. ⌜ SavingPromise run (now (map .entry)) (now (file .entry)) r (now (file .exit)) ⌝ }
 {
-    if let Verdict::Refused(number) = scope::judge_run(run) {
-        return Saved::Refused(number);
+    if let Verdict::Refused(reason, place) = scope::judge_run(run) {
+        return Saved::Refused(reason, place);
     }
     let cells = scope::cells(run);
     if map.len() as u64 != cells {
-        return Saved::Refused(9);
+        return Saved::Refused(Reason::Room, Place::Nowhere);
     }
     let size = bytes_for(run);
     if file.len() as u64 != file_length(size) {
-        return Saved::Refused(9);
+        return Saved::Refused(Reason::Room, Place::Nowhere);
     }
     let end = file.len();
     write_heading(run, &mut file[0..FILE_BLOCK_BYTES]);
@@ -110,24 +112,24 @@ pub fn save(run: Run, map: &[u8], file: &mut [u8]) -> Saved
     Saved::Done
 }
 
-// What 01's table says of block 0: as of every block, then its version and its spare bytes.
+// What the table says of block 0: as of every block, then its version and its spare bytes.
 fn judge_heading(block: &[u8]) -> Verdict
     requires { ⌜ length (now block) ≡ fileBlockBytes ⌝ }
     ensures { λ r. ⌜ r ≡ verdict (complaint (headingTests (now (block .entry)))) ⌝ }
 {
-    if let Verdict::Refused(number) = judge_file_block(0, HEADING_BYTES, block) {
-        return Verdict::Refused(number);
+    if let Verdict::Refused(reason, place) = judge_file_block(0, HEADING_BYTES, block) {
+        return Verdict::Refused(reason, place);
     }
     if block[4] != 1 {
-        return Verdict::Refused(15);
+        return Verdict::Refused(Reason::Layout, Place::Nowhere);
     }
     if !zeros_from(&block[5..8], 0) {
-        return Verdict::Refused(15);
+        return Verdict::Refused(Reason::Layout, Place::Nowhere);
     }
     Verdict::Fine
 }
 
-// What 01's table says of the blocks after block 0, in order, if they are to hold `size` bytes of cells.
+// What the table says of the blocks after block 0, in order, if they are to hold `size` bytes of cells.
 fn judge_cells(size: usize, file: &[u8]) -> Verdict
     requires { ⌜ (size < manyBytes) × (length (now file) ≡ fileLength size) ⌝ }
     ensures { λ r. ⌜ r ≡ verdict (complaint (laterFileBlocksTests size (now (file .entry)) (fileBlocksFor size))) ⌝ }
@@ -136,12 +138,12 @@ fn judge_cells(size: usize, file: &[u8]) -> Verdict
     while CONTENT_BYTES * k < size {
         let at = FILE_BLOCK_BYTES * (k + 1);
         let next = at + FILE_BLOCK_BYTES;
-        if let Verdict::Refused(number) = judge_file_block(
+        if let Verdict::Refused(reason, place) = judge_file_block(
             (k + 1) as u32,
             size - CONTENT_BYTES * k,
             &file[at..next],
         ) {
-            return Verdict::Refused(number);
+            return Verdict::Refused(reason, place);
         }
         k += 1;
     }
@@ -161,30 +163,30 @@ fn run_of(file: &[u8]) -> Run
     }
 }
 
-// What 01's table says of a file: its run, or the number of the first test that it fails. Only a count of blocks that fits
+// What the table says of a file: its run, or the first test that it fails. Only a count of blocks that fits
 // the run makes sure that each block is there to be judged.
 fn judge_file(file: &[u8]) -> Loaded
     ensures { λ r. ⌜ saysReading r ≡ reply (complaint (fileTests (now (file .entry)))) (runOf (now (file .entry))) ⌝ }
 {
     if file.len() % FILE_BLOCK_BYTES != 0 {
-        return Loaded::Refused(13);
+        return Loaded::Refused(Reason::FileBlocks, Place::Nowhere);
     }
     if file.len() == 0 {
-        return Loaded::Refused(13);
+        return Loaded::Refused(Reason::FileBlocks, Place::Nowhere);
     }
-    if let Verdict::Refused(number) = judge_heading(&file[0..FILE_BLOCK_BYTES]) {
-        return Loaded::Refused(number);
+    if let Verdict::Refused(reason, place) = judge_heading(&file[0..FILE_BLOCK_BYTES]) {
+        return Loaded::Refused(reason, place);
     }
     let run = run_of(file);
-    if let Verdict::Refused(number) = scope::judge_run(run) {
-        return Loaded::Refused(number);
+    if let Verdict::Refused(reason, place) = scope::judge_run(run) {
+        return Loaded::Refused(reason, place);
     }
     let size = bytes_for(run);
     if file_length(size) != file.len() as u64 {
-        return Loaded::Refused(13);
+        return Loaded::Refused(Reason::FileBlocks, Place::Nowhere);
     }
-    if let Verdict::Refused(number) = judge_cells(size as usize, file) {
-        return Loaded::Refused(number);
+    if let Verdict::Refused(reason, place) = judge_cells(size as usize, file) {
+        return Loaded::Refused(reason, place);
     }
     Loaded::Of(run)
 }
@@ -206,16 +208,16 @@ fn load(file: &[u8], map: &mut [u8])
 }
 
 // Public operation. Reads a file: its run, with a map of the exact length filled, or refused with the map as it was.
-// Refused, in this order: 13 for whole blocks, 14 and 15 for block 0, 1, 2, 3 for its run, 13 for the count, 14 and 15 for each
+// Refused, in this order: 13 for whole blocks, 14 and 15 for block 0, 1, 16, 17, 18, 3 for its run, 13 for the count, 14 and 15 for each
 // other block, 9 for the map's length. Every test, of the last block too, comes before the first cell is filled.
 pub fn read(file: &[u8], map: &mut [u8]) -> Loaded
     ensures { λ r. ⌜ ReadingPromise (now (file .entry)) (now (map .entry)) r (now (map .exit)) ⌝ }
 {
     match judge_file(file) {
-        Loaded::Refused(number) => Loaded::Refused(number),
+        Loaded::Refused(reason, place) => Loaded::Refused(reason, place),
         Loaded::Of(run) => {
             if map.len() as u64 != scope::cells(run) {
-                return Loaded::Refused(9);
+                return Loaded::Refused(Reason::Room, Place::Nowhere);
             }
             load(file, map);
             Loaded::Of(run)

@@ -4,48 +4,98 @@ use mathlib.Core.Path.{_≡_, refl, sym, ap, _∙_}
 use mathlib.Core.Bool.{Bool, true, false}
 use mathlib.Core.Option.{Option, some, none}
 use native.Mathlib.Omega.{arith}
-use Rattle.scope.specs.Refusal.{Reason, Window, Lines, Interval, Period, Remainder, WiderThanPeriod, Weight, Start, Room, Lists, Text, TooMany, FileBlocks, Check, Layout, call, listed, Complaint, Tests, _when_, _andThen_, ofSource, nothing, complaint, number}
-use Rattle.scope.specs.Reply.{refused, answered, reply, stored}
+use lib.ListN.{getD}
+use mathlib.Core.List.{[], _∷_}
+use Rattle.scope.specs.Refusal.{Complaint, Tests, _when_, _andThen_, ofSource, nothing, complaint, number}
+use Rattle.scope.specs.declared.Reason.{Reason}
+use Rattle.scope.specs.declared.Reason.the-variants.{Window, FirstLine, LineOrder, LastLine, Interval, Period, Remainder, WiderThanPeriod, Weight, Start, Room, Lists, Text, TooMany, FileBlocks, Check, Layout}
+use Rattle.scope.specs.declared.Place.{Place}
+use Rattle.scope.specs.declared.Place.the-variants.{Nowhere, AtSource}
+use Rattle.scope.specs.Reply.{Said, refused, answered, reply, stored}
 use Rattle.scope.specs.Inner.{verdict}
 use Rattle.scope.specs.declared.Verdict.{Verdict}
 use Rattle.scope.specs.declared.Verdict.the-variants.{Fine, Refused}
 
--- the tests come to a complaint with the number n
-pub record Fails (tests : Tests) (n : ℕ) : Type 0 where
-  pub blames : Complaint
-  pub is : complaint tests ≡ some blames
-  pub numbered : number (blames .reason) ≡ n
+-- ---- "The refusal numbers": a number tells its reason
+
+-- the reason with a number; for a number that no reason has, as 0 and 2, the first
+abbrev reasonOf : ℕ → Reason
+reasonOf n =
+    getD
+    (Window ∷ Window ∷ Window ∷ Interval ∷ Period ∷ Remainder ∷ WiderThanPeriod ∷ Weight ∷ Start ∷ Room ∷ Lists ∷ Text ∷ TooMany ∷ FileBlocks ∷ Check ∷ Layout ∷ FirstLine ∷ LineOrder ∷ LastLine ∷ [])
+    n Window
+
+told : (reason : Reason) → reasonOf (number reason) ≡ reason
+told Window = refl
+told FirstLine = refl
+told LineOrder = refl
+told LastLine = refl
+told Interval = refl
+told Period = refl
+told Remainder = refl
+told WiderThanPeriod = refl
+told Weight = refl
+told Start = refl
+told Room = refl
+told Lists = refl
+told Text = refl
+told TooMany = refl
+told FileBlocks = refl
+told Check = refl
+told Layout = refl
+
+-- no two reasons share a number
+pub number-injective : (a b : Reason) → number a ≡ number b → a ≡ b
+number-injective a b e = sym (told a) ∙ ap reasonOf e ∙ told b
+
+-- a number that would tell the window, but is not the window's, is no reason's
+no-number : (n : ℕ) → reasonOf n ≡ Window → (1 ≡ n → ⊥) → (reason : Reason) → number reason ≡ n → ⊥
+no-number n e other reason is = other (ap number (sym (ap reasonOf is ∙ e) ∙ told reason) ∙ is)
+
+-- none is 0, so that 0 can stand for "not refused"
+pub number-some : (reason : Reason) → 1 ≤ number reason
+number-some reason = let none : number reason ≡ 0 → ⊥ = no-number 0 refl (λ e. omega arith) reason in omega (arith, none)
+
+-- "2, which is no longer given"
+pub number-not-two : (reason : Reason) → number reason ≡ 2 → ⊥
+number-not-two = no-number 2 refl (λ e. omega arith)
+
+-- ---- the complaint
+
+-- the tests come to a complaint for this reason at this place
+pub record Fails (tests : Tests) (reason : Reason) (place : Place) : Type 0 where
+  pub is : complaint tests ≡ some (record { reason = reason; place = place })
 
 -- the tests come to no complaint
 pub record Passes (tests : Tests) : Type 0 where
   pub is : complaint tests ≡ none
 
 -- one test
-pub broken : {reason : Reason} {wrong : Bool} → wrong ≡ true → Fails (reason when wrong) (number reason)
+pub broken : {reason : Reason} {wrong : Bool} → wrong ≡ true → Fails (reason when wrong) reason Nowhere
 unfolding complaint
-broken {reason} e = record { blames = record { reason = reason; place = call }; is = rw e; numbered = refl }
+broken e = record { is = rw e }
 
 pub sound : {reason : Reason} {wrong : Bool} → wrong ≡ false → Passes (reason when wrong)
 unfolding complaint
 sound e = record { is = rw e }
 
 -- tests one after the other: the first fails; the first passes and the second fails; both pass
-pub first : {a b : Tests} {n : ℕ} → Fails a n → Fails (a andThen b) n
+pub first : {a b : Tests} {reason : Reason} {place : Place} → Fails a reason place → Fails (a andThen b) reason place
 unfolding complaint
-first f = record { blames = f .blames; is = rw (f .is); numbered = f .numbered }
+first f = record { is = rw (f .is) }
 
-pub then : {a b : Tests} {n : ℕ} → Passes a → Fails b n → Fails (a andThen b) n
+pub then : {a b : Tests} {reason : Reason} {place : Place} → Passes a → Fails b reason place → Fails (a andThen b) reason place
 unfolding complaint
-then p f = record { blames = f .blames; is = rw (p .is) (f .is); numbered = f .numbered }
+then p f = record { is = rw (p .is) (f .is) }
 
 pub both : {a b : Tests} → Passes a → Passes b → Passes (a andThen b)
 unfolding complaint
 both p q = record { is = rw (p .is) (q .is) }
 
--- tests of a source of a list
-pub source-fails : {k : ℕ} {tests : Tests} {n : ℕ} → Fails tests n → Fails (ofSource k tests) n
+-- tests of the source at a place of a list
+pub source-fails : {k : ℕ} {tests : Tests} {reason : Reason} {place : Place} → Fails tests reason place → Fails (ofSource k tests) reason (AtSource k)
 unfolding complaint
-source-fails {k} f = record { blames = record { reason = f .blames .reason; place = listed k }; is = rw (f .is); numbered = f .numbered }
+source-fails f = record { is = rw (f .is) }
 
 pub source-passes : {k : ℕ} {tests : Tests} → Passes tests → Passes (ofSource k tests)
 unfolding complaint
@@ -63,21 +113,24 @@ fine {tests} e f = record { is = go (complaint tests) (sym e ∙ f) }
     go none e = refl
     go (some c) e = cc
 
-pub blamed : {tests : Tests} {v : Verdict} {n : ℕ} → v ≡ verdict (complaint tests) → v ≡ Refused n → Fails tests n
-blamed {tests} {v} {n} e f = go (complaint tests) refl (sym e ∙ f)
+pub blamed : {tests : Tests} {v : Verdict} {reason : Reason} {place : Place} → v ≡ verdict (complaint tests) → v ≡ Refused reason place → Fails tests reason place
+blamed {tests} {v} {reason} {place} e f = record { is = go (complaint tests) (sym e ∙ f) }
   where
-    go : (o : Option Complaint) → complaint tests ≡ o → verdict o ≡ Refused n → Fails tests n
-    go none i e = absurd (let z : _≡_ {A = ℕ} 0 1 = cc in omega arith)
-    go (some c) i e = record { blames = c; is = i; numbered = cc }
+    go : (o : Option Complaint) → verdict o ≡ Refused reason place → o ≡ some (record { reason = reason; place = place })
+    go none e = absurd (let z : _≡_ {A = ℕ} 0 1 = cc in omega arith)
+    go (some c) e =
+        let r : c .reason ≡ reason = cc in
+        let p : c .place ≡ place = cc in
+        λ i. some (record { reason = r i; place = p i })
 
 -- what a complaint makes of the verdict, of the reply and of what is lent
-pub refuse-verdict : {tests : Tests} {n : ℕ} → Fails tests n → Refused n ≡ verdict (complaint tests)
-refuse-verdict f = rw (f .is) (ap Refused (sym (f .numbered)))
+pub refuse-verdict : {tests : Tests} {reason : Reason} {place : Place} → Fails tests reason place → Refused reason place ≡ verdict (complaint tests)
+refuse-verdict f = rw (f .is)
 
-pub refuse-reply : {A : Type 0} {tests : Tests} {n : ℕ} (a : A) → Fails tests n → refused n ≡ reply (complaint tests) a
-refuse-reply a f = rw (f .is) (ap refused (sym (f .numbered)))
+pub refuse-reply : {A : Type 0} {tests : Tests} {reason : Reason} {place : Place} (a : A) → Fails tests reason place → refused (number reason) place ≡ reply (complaint tests) a
+refuse-reply a f = rw (f .is)
 
-pub refuse-stored : {A : Type 0} {tests : Tests} {n : ℕ} (before after : A) → Fails tests n → before ≡ stored (complaint tests) before after
+pub refuse-stored : {A : Type 0} {tests : Tests} {reason : Reason} {place : Place} (before after : A) → Fails tests reason place → before ≡ stored (complaint tests) before after
 refuse-stored before after f = rw (f .is)
 
 -- what no complaint makes of them
@@ -98,33 +151,21 @@ said-answered {A} {a} {b} tests e = go (complaint tests) refl e
     go none i e = (record { is = i }, cc)
     go (some c) i e = absurd (let z : _≡_ {A = ℕ} 0 1 = cc in omega arith)
 
-pub said-refused : {A : Type 0} {n : ℕ} (tests : Tests) (b : A) → refused n ≡ reply (complaint tests) b → Fails tests n
-said-refused {A} {n} tests b e = go (complaint tests) refl e
+-- two replies that refuse say the same only if they do so with one number, at one place
+pub refused-same : {A : Type 0} {m n : ℕ} {k l : Place} → _≡_ {A = Said A} (refused m k) (refused n l) → (m ≡ n) × (k ≡ l)
+refused-same e = (cc, cc)
+
+-- a refusal of an answer enum is told by what it says
+pub same-refusal : {A : Type 0} {a b : Reason} {k l : Place} → _≡_ {A = Said A} (refused (number a) k) (refused (number b) l) → (a ≡ b) × (k ≡ l)
+same-refusal {a = a} {b} e = let s = refused-same e in (number-injective a b (s .0), s .1)
+
+pub said-refused : {A : Type 0} {reason : Reason} {place : Place} (tests : Tests) (b : A) → refused (number reason) place ≡ reply (complaint tests) b → Fails tests reason place
+said-refused {A} {reason} {place} tests b e = record { is = go (complaint tests) e }
   where
-    go : (o : Option Complaint) → complaint tests ≡ o → refused n ≡ reply o b → Fails tests n
-    go none i e = absurd (let z : _≡_ {A = ℕ} 0 1 = cc in omega arith)
-    go (some c) i e = record { blames = c; is = i; numbered = cc }
-
--- ---- "The refusal numbers": none is 0, so that 0 can stand for "not refused"
-
-pub number-some : (reason : Reason) → 1 ≤ number reason
-unfolding number
-number-some Window = omega arith
-number-some Lines = omega arith
-number-some Interval = omega arith
-number-some Period = omega arith
-number-some Remainder = omega arith
-number-some WiderThanPeriod = omega arith
-number-some Weight = omega arith
-number-some Start = omega arith
-number-some Room = omega arith
-number-some Lists = omega arith
-number-some Text = omega arith
-number-some TooMany = omega arith
-number-some FileBlocks = omega arith
-number-some Check = omega arith
-number-some Layout = omega arith
-
-pub refused-some : {A : Type 0} {n : ℕ} (o : Option Complaint) (answer : A) → refused n ≡ reply o answer → 1 ≤ n
-refused-some none answer e = absurd (let z : _≡_ {A = ℕ} 0 1 = cc in omega arith)
-refused-some {n = n} (some c) answer e = let z : n ≡ number (c .reason) = cc in omega (arith, number-some (c .reason))
+    go : (o : Option Complaint) → refused (number reason) place ≡ reply o b → o ≡ some (record { reason = reason; place = place })
+    go none e = absurd (let z : _≡_ {A = ℕ} 0 1 = cc in omega arith)
+    go (some c) e =
+        let s = refused-same e in
+        let r = number-injective (c .reason) reason (sym (s .0)) in
+        let p = sym (s .1) in
+        λ i. some (record { reason = r i; place = p i })

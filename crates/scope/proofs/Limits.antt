@@ -11,7 +11,8 @@ use borrow.Author.Tests.{ltb-false, le-ltb, eqb-false, ne-eqb}
 use Rattle.scope.specs.declared.Run.{Run}
 use Rattle.scope.specs.declared.Source.{Source}
 use Rattle.scope.specs.Run.{ValidRun, ValidSource, linesOf, cellsOf}
-use Rattle.scope.specs.Refusal.{Reason, Complaint, Tests, _when_, _andThen_, ofSource, orElse, placed, complaint, windowTests, lineTests, runTests, periodTests, sourceTests}
+use Rattle.scope.specs.Refusal.{Complaint, Tests, _when_, _andThen_, ofSource, orElse, placed, complaint, windowTests, lineTests, runTests, periodTests, sourceTests}
+use Rattle.scope.specs.declared.Reason.{Reason}
 use Rattle.scope.proofs.Judged.{Passes, sound, both}
 
 -- ---- what tests that pass tell
@@ -83,7 +84,7 @@ pub valid-run : {run : Run} → Passes (runTests run) → run .interval ≤ 4294
 unfolding runTests lineTests
 valid-run {run} p fits =
     let w = valid-window (passes-first (passes-first p)) in
-    let begins = ltb-false (run .first) 1 (passes-when (passes-first (passes-first (passes-then (passes-first p))))) in
+    let some-line = eqb-false (run .first) 0 (passes-when (passes-first (passes-first (passes-then (passes-first p))))) in
     let ordered = ltb-false (run .last) (run .first) (passes-when (passes-then (passes-first (passes-then (passes-first p))))) in
     let ends = ltb-false 16777216 (run .last) (passes-when (passes-then (passes-then (passes-first p)))) in
     let ticks = eqb-false (run .interval) 0 (passes-when (passes-then p)) in
@@ -95,7 +96,7 @@ valid-run-passes {run} v =
     both
     (both
     (valid-window-passes (run-window v))
-    (both (both (sound (le-ltb _ _ (v .begins))) (sound (le-ltb _ _ (v .ordered)))) (sound (le-ltb _ _ (v .ends)))))
+    (both (both (sound (ne-eqb (run .first) 0 (omega (arith, v .begins)))) (sound (le-ltb _ _ (v .ordered)))) (sound (le-ltb _ _ (v .ends)))))
     (sound (ne-eqb (run .interval) 0 (omega arith)))
 
 -- ---- a call's rows

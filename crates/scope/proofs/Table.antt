@@ -1,4 +1,4 @@
--- The tests of runs and periods say what their rows of 01's table say; and what the tests of numbers say. Assumes nothing.
+-- The tests of runs and periods say what their rows of the table say; and what the tests of numbers say. Assumes nothing.
 use Prim.Native.Nat.{ℕ, _%_, _≤_, _<_}
 use mathlib.Core.Path.{_≡_, ap}
 use mathlib.Core.Logic.{_↔_, _⊎_, _≢_}
@@ -7,7 +7,7 @@ use mathlib.Core.List.{[], _∷_}
 use lib.Dec.{ltb, leb, eqb}
 use borrow.Author.Tests.{ltb-true, lt-ltb, leb-true, le-leb, eqb-true, eq-eqb, eqb-false, ne-eqb, not-true}
 use Rattle.scope.specs.declared.Run.{Run}
-use Rattle.scope.specs.Refusal.{number, windowTests, lineTests, runTests, periodTests}
+use Rattle.scope.specs.Refusal.{windowTests, lineTests, runTests, periodTests}
 use Rattle.scope.specs.Table.{_given_, BadWindow, BadPeriod, runTable}
 use Rattle.scope.proofs.Rendered.{Renders, _next_, one, either}
 
@@ -28,17 +28,17 @@ unequal a b = (λ e. eqb-false a b (not-true (eqb a b) e), λ n. ap not (ne-eqb 
 -- ---- runs and periods
 
 pub window-renders : (window : ℕ) → Renders (windowTests window) (1 given BadWindow window ∷ [])
-unfolding windowTests number
+unfolding windowTests
 window-renders window = either (either (one (equal (window % 2) 1)) (one (below window 2))) (one (below 4096 window))
 
-lines-renders : (first last : ℕ) → Renders (lineTests first last) (2 given (((first < 1) ⊎ (last < first)) ⊎ (16777216 < last)) ∷ [])
-unfolding lineTests number
-lines-renders first last = either (either (one (below first 1)) (one (below last first))) (one (below 16777216 last))
+lines-renders : (first last : ℕ) → Renders (lineTests first last) (16 given (first ≡ 0) ∷ 17 given (last < first) ∷ 18 given (16777216 < last) ∷ [])
+unfolding lineTests
+lines-renders first last = one (equal first 0) next one (below last first) next one (below 16777216 last)
 
 pub run-renders : (run : Run) → Renders (runTests run) (runTable run)
-unfolding runTests number
+unfolding runTests
 run-renders run = window-renders (run .window) next lines-renders (run .first) (run .last) next one (equal (run .interval) 0)
 
 pub period-renders : (period : ℕ) → Renders (periodTests period) (4 given BadPeriod period ∷ [])
-unfolding periodTests number
+unfolding periodTests
 period-renders period = either (one (equal period 0)) (one (below 2147483647 period))

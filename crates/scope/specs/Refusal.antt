@@ -1,68 +1,55 @@
--- Document 01, "The refusal numbers": why a call is refused, and the tests that runs and sources pass in every call.
+-- Document 01, "The refusal numbers", and request E1: why a call is refused, and where; and the tests that runs and sources pass in
+-- every call.
 use Prim.Native.Nat.{ℕ, _%_}
 use mathlib.Core.Bool.{Bool, cond}
 use mathlib.Core.Option.{Option, some, none}
 use lib.Dec.{ltb, eqb}
 use Rattle.scope.specs.declared.Run.{Run}
 use Rattle.scope.specs.declared.Source.{Source}
+use Rattle.scope.specs.declared.Reason.{Reason}
+use Rattle.scope.specs.declared.Reason.the-variants.{Window, FirstLine, LineOrder, LastLine, Interval, Period, Remainder, WiderThanPeriod, Weight, Start, Room, Lists, Text, TooMany, FileBlocks, Check, Layout}
+use Rattle.scope.specs.declared.Place.{Place}
+use Rattle.scope.specs.declared.Place.the-variants.{Nowhere, AtSource}
 
--- The rows of the table of refusal numbers, each by what is wrong.
-pub data Reason : Type 0 where
-  -- "window odd, below 2 or above 4,096"
-  Window : Reason
-  -- "a line limit broken"
-  Lines : Reason
-  -- "interval 0"
-  Interval : Reason
-  -- "period 0 or above 2,147,483,647"
-  Period : Reason
-  -- "vectors: r ≥ p"
-  Remainder : Reason
-  -- "vectors: I > p"
-  WiderThanPeriod : Reason
-  -- "weight 0 or above 255"
-  Weight : Reason
-  -- "starting cell not in the run"
-  Start : Reason
-  -- "listing room 0; map or file room not of the exact length"
-  Room : Reason
-  -- "period and weight lists of unequal length"
-  Lists : Reason
-  -- "text not of the form below"
-  Text : Reason
-  -- "text: more than 64 sources, or a run of more than 65,536 cells"
-  TooMany : Reason
-  -- "saved file: no whole number of blocks, none, or not as many as its run needs"
-  FileBlocks : Reason
-  -- "saved file: wrong block number or check"
-  Check : Reason
-  -- "saved file: version, spare byte or filling not as laid down"
-  Layout : Reason
-
--- The table's first column.
-unfoldable pub number : Reason → ℕ
+-- The number of each reason. In quotes above it: when it is given, from 01's table, and for 16, 17 and 18 from request E1: "Split it:
+-- first line 0, last line before the first, last line above the limit"; "in the place of 2, which is no longer given".
+abbrev pub number : Reason → ℕ
+-- "window odd, below 2 or above 4,096"
 number Window = 1
-number Lines = 2
+-- "first line 0"
+number FirstLine = 16
+-- "last line before the first"
+number LineOrder = 17
+-- "last line above the limit"
+number LastLine = 18
+-- "interval 0"
 number Interval = 3
+-- "period 0 or above 2,147,483,647"
 number Period = 4
+-- "vectors: r ≥ p"
 number Remainder = 5
+-- "vectors: I > p"
 number WiderThanPeriod = 6
+-- "weight 0 or above 255"
 number Weight = 7
+-- "starting cell not in the run"
 number Start = 8
+-- "listing room 0; map or file room not of the exact length"
 number Room = 9
+-- "period and weight lists of unequal length"
 number Lists = 10
+-- "text not of the form below"
 number Text = 11
+-- "text: more than 64 sources, or a run of more than 65,536 cells"
 number TooMany = 12
+-- "saved file: no whole number of blocks, none, or not as many as its run needs"
 number FileBlocks = 13
+-- "saved file: wrong block number or check"
 number Check = 14
+-- "saved file: version, spare byte or filling not as laid down"
 number Layout = 15
 
--- What a complaint concerns: the call, or the source at a place of its list, counted from 1.
-pub data Place : Type 0 where
-  call : Place
-  listed : ℕ → Place
-
--- A complaint: the reason, and the place of the source where it concerns one of a list.
+-- "a refusal carries the reason and, where it concerns a source, that place" (E1).
 pub record Complaint : Type 0 where
   pub reason : Reason
   pub place : Place
@@ -85,14 +72,14 @@ abbrev pub orElse : Option Complaint → Option Complaint → Option Complaint
 orElse none other = other
 orElse (some c) other = some c
 
--- A complaint about a source of a list has the source's place.
+-- "Where a source in a list is at fault .. its place, counted from 1" (E1).
 abbrev pub placed : ℕ → Option Complaint → Option Complaint
 placed k none = none
-placed k (some c) = some (record { reason = c .reason; place = listed k })
+placed k (some c) = some (record { reason = c .reason; place = AtSource k })
 
 -- The complaint about a call: the first of its tests that fails, if any.
 unfoldable pub complaint : Tests → Option Complaint
-complaint (reason when wrong) = cond wrong (some (record { reason = reason; place = call })) none
+complaint (reason when wrong) = cond wrong (some (record { reason = reason; place = Nowhere })) none
 complaint (first andThen rest) = orElse (complaint first) (complaint rest)
 complaint (ofSource k tests) = placed k (complaint tests)
 complaint nothing = none
@@ -104,14 +91,14 @@ windowTests window =
     Window when ltb window 2 andThen
     Window when ltb 4096 window
 
--- "2: a line limit broken": first ≥ 1, last ≥ first, last ≤ 16,777,216.
+-- "16, 17, 18 in the order named, in the place of 2" (E1): "first ≥ 1, last ≥ first, last ≤ 16,777,216".
 unfoldable pub lineTests : ℕ → ℕ → Tests
 lineTests first last =
-    Lines when ltb first 1 andThen
-    Lines when ltb last first andThen
-    Lines when ltb 16777216 last
+    FirstLine when eqb first 0 andThen
+    LineOrder when ltb last first andThen
+    LastLine when ltb 16777216 last
 
--- "1, 2, 3": a run's tests. "3: interval 0".
+-- "1, 2, 3", with 16, 17, 18 for 2 (E1): a run's tests. "3: interval 0".
 unfoldable pub runTests : Run → Tests
 runTests run =
     windowTests (run .window) andThen

@@ -3,8 +3,8 @@
 ghost use mathlib.Core.Path.{_≡_};
 ghost use Prim.Native.Nat.{_≤_};
 ghost use Rattle.scope.specs.Run.{ValidRun, cellsOf, shiftOf, toRun};
-ghost use Rattle.scope.specs.Inner.{IsBlock, toBlock, firstOf, verdict};
-ghost use Rattle.scope.specs.Refusal.{complaint, windowTests, lineTests, runTests, periodTests, sourceTests};
+ghost use Rattle.scope.specs.Inner.{IsBlock, toBlock, firstOf, atSource, verdict};
+ghost use Rattle.scope.specs.Refusal.{number, complaint, windowTests, lineTests, runTests, periodTests, sourceTests};
 
 // What a weight, and a cell of a map, is at most: `ceiling` of the specs. A cell is as wide as this number.
 pub const CEILING: u8 = 255;
@@ -28,12 +28,83 @@ pub struct RunCell(pub u64);
 // A cell number of a block of that run, counted from the block's first line on.
 pub struct BlockCell(pub u64);
 
+// Why a call is refused: the table of refusal numbers, each row by what is wrong.
+pub enum Reason {
+    // The window is odd, below 2 or above 4,096.
+    Window,
+    // The first line is 0.
+    FirstLine,
+    // The last line is before the first.
+    LineOrder,
+    // The last line is above 16,777,216.
+    LastLine,
+    // The interval is 0.
+    Interval,
+    // The period is 0 or above 2,147,483,647.
+    Period,
+    // The remainder is not below the period.
+    Remainder,
+    // The window is wider than the period.
+    WiderThanPeriod,
+    // The weight is 0 or above the ceiling.
+    Weight,
+    // The starting cell is not in the run.
+    Start,
+    // The listing room is empty, or the map or the file room is not of the exact length.
+    Room,
+    // The lists of periods and of weights are of unequal length.
+    Lists,
+    // The text is not of the form.
+    Text,
+    // The text has too many sources or cells.
+    TooMany,
+    // The saved file has no whole number of blocks, none, or not as many as its run needs.
+    FileBlocks,
+    // A block of the saved file has a wrong number or check.
+    Check,
+    // A version, a spare byte or the filling of the saved file is not as laid down.
+    Layout,
+}
+
+// What a refusal concerns.
+pub enum Place {
+    // No source of a list.
+    Nowhere,
+    // The source at this place of its list, counted from 1.
+    AtSource(u64),
+}
+
 // What the tests of a call, or some of them, came to.
 pub enum Verdict {
     // No test was failed.
     Fine,
-    // The number of the first test that was.
-    Refused(u8),
+    // The first test that was: why, and where.
+    Refused(Reason, Place),
+}
+
+// Inner step. The number that a reason has in the table.
+pub fn number_of(reason: Reason) -> u8
+    ensures { λ r. ⌜ r ≡ number reason ⌝ }
+{
+    match reason {
+        Reason::Window => 1,
+        Reason::FirstLine => 16,
+        Reason::LineOrder => 17,
+        Reason::LastLine => 18,
+        Reason::Interval => 3,
+        Reason::Period => 4,
+        Reason::Remainder => 5,
+        Reason::WiderThanPeriod => 6,
+        Reason::Weight => 7,
+        Reason::Start => 8,
+        Reason::Room => 9,
+        Reason::Lists => 10,
+        Reason::Text => 11,
+        Reason::TooMany => 12,
+        Reason::FileBlocks => 13,
+        Reason::Check => 14,
+        Reason::Layout => 15,
+    }
 }
 
 // Inner step. The first of two verdicts, unless it is fine: then the second.
@@ -42,72 +113,82 @@ pub fn first_of(first: Verdict, second: Verdict) -> Verdict
 {
     match first {
         Verdict::Fine => second,
-        Verdict::Refused(number) => Verdict::Refused(number),
+        Verdict::Refused(reason, place) => Verdict::Refused(reason, place),
     }
 }
 
-// Inner step. What 01's table says of a window.
+// Inner step. A verdict on the source at a place of a list, counted from 1: where it refuses, that is the refusal's place.
+pub fn at_source(place: u64, said: Verdict) -> Verdict
+    ensures { λ r. ⌜ r ≡ atSource place said ⌝ }
+{
+    match said {
+        Verdict::Fine => Verdict::Fine,
+        Verdict::Refused(reason, _) => Verdict::Refused(reason, Place::AtSource(place)),
+    }
+}
+
+// Inner step. What the table says of a window.
 pub fn judge_window(window: u32) -> Verdict
     ensures { λ r. ⌜ r ≡ verdict (complaint (windowTests window)) ⌝ }
 {
     if window % 2 == 1 {
-        return Verdict::Refused(1);
+        return Verdict::Refused(Reason::Window, Place::Nowhere);
     }
     if window < 2 {
-        return Verdict::Refused(1);
+        return Verdict::Refused(Reason::Window, Place::Nowhere);
     }
     if 4096 < window {
-        return Verdict::Refused(1);
+        return Verdict::Refused(Reason::Window, Place::Nowhere);
     }
     Verdict::Fine
 }
 
-// What 01's table says of a first and a last line.
+// What the table says of a first and a last line: the first line, then the order of the two, then the last line.
 fn judge_lines(first: u32, last: u32) -> Verdict
     ensures { λ r. ⌜ r ≡ verdict (complaint (lineTests first last)) ⌝ }
 {
-    if first < 1 {
-        return Verdict::Refused(2);
+    if first == 0 {
+        return Verdict::Refused(Reason::FirstLine, Place::Nowhere);
     }
     if last < first {
-        return Verdict::Refused(2);
+        return Verdict::Refused(Reason::LineOrder, Place::Nowhere);
     }
     if 16777216 < last {
-        return Verdict::Refused(2);
+        return Verdict::Refused(Reason::LastLine, Place::Nowhere);
     }
     Verdict::Fine
 }
 
-// Inner step. What 01's table says of a run: its window, then its lines, then its interval.
+// Inner step. What the table says of a run: its window, then its lines, then its interval.
 pub fn judge_run(run: Run) -> Verdict
     ensures { λ r. ⌜ r ≡ verdict (complaint (runTests run)) ⌝ }
 {
-    if let Verdict::Refused(number) = judge_window(run.window) {
-        return Verdict::Refused(number);
+    if let Verdict::Refused(reason, place) = judge_window(run.window) {
+        return Verdict::Refused(reason, place);
     }
-    if let Verdict::Refused(number) = judge_lines(run.first, run.last) {
-        return Verdict::Refused(number);
+    if let Verdict::Refused(reason, place) = judge_lines(run.first, run.last) {
+        return Verdict::Refused(reason, place);
     }
     if run.interval == 0 {
-        return Verdict::Refused(3);
+        return Verdict::Refused(Reason::Interval, Place::Nowhere);
     }
     Verdict::Fine
 }
 
-// Inner step. What 01's table says of a period.
+// Inner step. What the table says of a period.
 pub fn judge_period(period: u32) -> Verdict
     ensures { λ r. ⌜ r ≡ verdict (complaint (periodTests period)) ⌝ }
 {
     if period == 0 {
-        return Verdict::Refused(4);
+        return Verdict::Refused(Reason::Period, Place::Nowhere);
     }
     if 2147483647 < period {
-        return Verdict::Refused(4);
+        return Verdict::Refused(Reason::Period, Place::Nowhere);
     }
     Verdict::Fine
 }
 
-// Inner step. What 01's table says of a source, whatever its weight.
+// Inner step. What the table says of a source, whatever its weight.
 pub fn judge_source(source: Source) -> Verdict
     ensures { λ r. ⌜ r ≡ verdict (complaint (sourceTests source)) ⌝ }
 {

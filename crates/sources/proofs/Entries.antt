@@ -1,5 +1,5 @@
 -- Laws of list entries: how they follow from the two lists and give them back, and what their tests tell. Assumes nothing.
-use Prim.Native.Nat.{ℕ, suc, _<_}
+use Prim.Native.Nat.{ℕ, suc, _≤_, _<_}
 use mathlib.Core.Path.{_≡_, refl, ap}
 use mathlib.Core.List.{List, [], _∷_, _++_}
 use lib.ListN.{length, getD, drop}
@@ -23,6 +23,12 @@ unfolding entriesOf
 entries-length [] weights e = refl
 entries-length (p ∷ periods) [] e = absurd (omega arith)
 entries-length (p ∷ periods) (w ∷ weights) e = ap suc (entries-length periods weights (omega arith))
+
+pub entries-few : (periods weights : List ℕ) → length (entriesOf periods weights) ≤ length periods
+unfolding entriesOf
+entries-few [] weights = omega arith
+entries-few (p ∷ periods) [] = omega arith
+entries-few (p ∷ periods) (w ∷ weights) = omega (arith, entries-few periods weights)
 
 -- from k on, counted from 0: the entry there, and those after it
 pub entries-from : (periods weights : List ℕ) (k : ℕ) → k < length periods → k < length weights → entriesOf (drop k periods) (drop k weights) ≡ entry (getD periods k 0) (getD weights k 0) ∷ entriesOf (drop (suc k) periods) (drop (suc k) weights)

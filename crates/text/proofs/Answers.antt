@@ -12,6 +12,9 @@ use Rattle.words.specs.declared.Found.{Found}
 use Rattle.words.specs.declared.Found.the-variants.{Next, Refused}
 use Rattle.words.proofs.Lines.{line-split}
 use Rattle.scope.specs.declared.Run.{Run}
+use Rattle.scope.specs.declared.Reason.{Reason}
+use Rattle.scope.specs.declared.Place.{Place}
+use Rattle.scope.specs.declared.Place.the-variants.{Nowhere}
 use Rattle.scope.proofs.Judged.{Fails, Passes, refuse-reply, grant-reply, refuse-stored, grant-stored}
 use Rattle.sources.specs.Entry.{Entry, entriesOf}
 use Rattle.sources.specs.Lists.{periodsOf, weightsOf}
@@ -49,18 +52,18 @@ module _ {text : List ℕ} {run : Run} {at : ℕ} (l : Line text 0 runWord (runN
 pub all-lines : {text numbers : List ℕ} {at : ℕ} → Line text 0 runWord numbers at → length numbers ≡ 4 → length text ≤ 4096
     → (periods weights periods′ weights′ : List ℕ) (count : ℕ) (found : Found) → SourcesAt text at periods weights periods′ weights′ count found → LinesAt text numbers periods weights periods′ weights′ count found
 all-lines l h short periods weights periods′ weights′ count (Next end) s = record { short = short; at = _; runs = l; lists = s }
-all-lines l h short periods weights periods′ weights′ count (Refused n) s = (s .0, no-sources (line-run l h refl) (s .1))
+all-lines l h short periods weights periods′ weights′ count (Refused reason) s = (s .0, no-sources (line-run l h refl) (s .1))
 
 -- ---- the reply that it makes
 
 -- the refusal that was handed on
-pub refuses-form : {text : List ℕ} {n : ℕ} {input : Input} → Reads text none → NotOfForm n → input ≡ refusal n → TextPromise text input
+pub refuses-form : {text : List ℕ} {reason : Reason} {input : Input} → Reads text none → NotOfForm reason → input ≡ refusal reason Nowhere → TextPromise text input
 unfolding padded zeros periodsOf weightsOf
 refuses-form r f e =
     record { content = none; reads = r; says = rw (e, f); counts = rw e; periods = rw e; weights = rw e }
 
-pub refuses : {text : List ℕ} {content : Content} {n : ℕ} {input : Input} → Spells text content → Fails (textTests content) n
-    → input ≡ refusal n → TextPromise text input
+pub refuses : {text : List ℕ} {content : Content} {reason : Reason} {place : Place} {input : Input} → Spells text content → Fails (textTests content) reason place
+    → input ≡ refusal reason place → TextPromise text input
 unfolding padded zeros periodsOf weightsOf
 refuses {content = content} s f e =
     let empty : handed (some content) ≡ [] = sym (refuse-stored [] (content .entries) f) in

@@ -1,7 +1,6 @@
 -- The tests of what a text says are those of its table, row by row. Assumes nothing.
 use lib.ListN.{length}
 use Rattle.scope.specs.Run.{cellsOf}
-use Rattle.scope.specs.Refusal.{number}
 use Rattle.scope.proofs.Rendered.{Renders, _next_, one, either, then-two}
 use Rattle.scope.proofs.Table.{below, run-renders}
 use Rattle.sources.proofs.Table.{sources-renders}
@@ -9,9 +8,9 @@ use Rattle.text.specs.Form.{Content}
 use Rattle.text.specs.Promise.{mostSources, mostCells, textTests}
 use Rattle.text.specs.Table.{textTable}
 
--- "Text: 11, 1, 2, 3, 12, then each source 4 before 7", after 11
+-- "Text: 11, 1, 2, 3, 12, then each source 4 before 7", after 11, with 16, 17, 18 for 2
 pub text-renders : (content : Content) → Renders (textTests content) (textTable content)
-unfolding textTests number
+unfolding textTests
 text-renders content =
     then-two (run-renders (content .run) next either (one (below mostSources (length (content .entries)))) (one (below mostCells (cellsOf (content .run))))) next
     sources-renders 1 (content .entries)

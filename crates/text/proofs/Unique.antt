@@ -1,8 +1,8 @@
 -- A text says one thing at most, and no second reply fits; some reply does; when it is accepted. Assumes nothing.
 use Prim.Native.Nat.{ℕ}
 use native.Mathlib.Omega.{arith}
-use mathlib.Core.Path.{_≡_, refl, sym, ap, _∙_, subst}
-use mathlib.Core.Logic.{_↔_}
+use mathlib.Core.Path.{_≡_, refl, sym, ap, ap₂, _∙_, subst}
+use mathlib.Core.Logic.{_↔_, _⊎_, inl, inr}
 use mathlib.Core.List.{List, [], _∷_}
 use mathlib.Core.Option.{Option, some, none}
 use lib.ListN.{length, getD, take}
@@ -12,8 +12,11 @@ use Rattle.words.specs.Line.{line}
 use Rattle.words.proofs.Lines.{line-split}
 use Rattle.scope.specs.declared.Run.{Run}
 use Rattle.scope.specs.Refusal.{Complaint, complaint}
-use Rattle.scope.specs.Reply.{Said, refused, answered, reply, stored}
-use Rattle.scope.proofs.Judged.{Passes, grant-reply, grant-stored}
+use Rattle.scope.specs.declared.Reason.the-variants.{Text}
+use Rattle.scope.specs.declared.Place.the-variants.{Nowhere}
+use Rattle.scope.specs.Reply.{answered, reply, stored}
+use Rattle.scope.proofs.Judged.{Fails, Passes, same-refusal, refuse-reply, grant-reply, grant-stored}
+use Rattle.scope.proofs.Rendered.{judged}
 use Rattle.sources.specs.Entry.{Entry}
 use Rattle.sources.specs.Lists.{periodsOf, weightsOf}
 use Rattle.sources.proofs.Entries.{entry, entries-of, periods-length, weights-length}
@@ -62,9 +65,9 @@ reads-unique text (some a) (some b) r s = ap some (spells-unique r s)
 
 says-text-injective : (a b : Answer) → saysText a ≡ saysText b → a ≡ b
 says-text-injective (Read r) (Read s) e = cc
-says-text-injective (Read r) (Refused n) e = cc
-says-text-injective (Refused m) (Read s) e = cc
-says-text-injective (Refused m) (Refused n) e = cc
+says-text-injective (Read r) (Refused reason place) e = cc
+says-text-injective (Refused reason place) (Read s) e = cc
+says-text-injective (Refused reason place) (Refused reason′ place′) e = let s = same-refusal e in ap₂ Refused (s .0) (s .1)
 
 -- no second reply fits
 pub text-unique : (text : List ℕ) (i j : Input) → TextPromise text i → TextPromise text j → i ≡ j
@@ -78,19 +81,20 @@ text-unique text i j p q =
 
 -- ---- some reply fits: every text says something, or it has not the form
 
-abbrev answer : Said Run → Answer
-answer (answered run) = Read run
-answer (refused n) = Refused n
-
-says-answer : (s : Said Run) → saysText (answer s) ≡ s
-says-answer (answered run) = refl
-says-answer (refused n) = refl
+answer : (o : Option Content) → (a : Answer) × (saysText a ≡ replyTo o)
+answer none = (Refused Text Nowhere, refl)
+answer (some content) = go (judged (textTests content))
+  where
+    go : Passes (textTests content) ⊎ ((c : Complaint) × Fails (textTests content) (c .reason) (c .place)) → (a : Answer) × (saysText a ≡ replyTo (some content))
+    go (inl p) = (Read (content .run), grant-reply (content .run) p)
+    go (inr f) = (Refused (f .0 .reason) (f .0 .place), refuse-reply (content .run) (f .1))
 
 pub text-exists : (text : List ℕ) → (input : Input) × TextPromise text input
 text-exists text =
-    let (o, r) = reads-exists text in (
-      record { answer = answer (replyTo o); count = length (handed o); periods = padded mostSources (periodsOf (handed o)); weights = padded mostSources (weightsOf (handed o)) },
-      record { content = o; reads = r; says = says-answer (replyTo o); counts = refl; periods = refl; weights = refl },
+    let (o, r) = reads-exists text in
+    let (a, says) = answer o in (
+      record { answer = a; count = length (handed o); periods = padded mostSources (periodsOf (handed o)); weights = padded mostSources (weightsOf (handed o)) },
+      record { content = o; reads = r; says = says; counts = refl; periods = refl; weights = refl },
     )
 
 -- ---- accepted with a run and sources exactly if the text is their rendering and they pass the tests
@@ -108,17 +112,17 @@ pub accepted : (text : List ℕ) (input : Input) → TextPromise text input → 
     → ((input .answer ≡ Read (d .run)) × (sourcesOf input ≡ d .entries)) ↔ (Spells text d × Passes (textTests d))
 accepted text input p d = (λ e. go (p .content) (p .reads) (sym (ap saysText (e .0)) ∙ p .says) (sym (sources-handed text input p) ∙ e .1), back)
   where
-    judged : (d′ : Content) → Spells text d′ → (x : Option Complaint) → complaint (textTests d′) ≡ x → answered (d .run) ≡ reply x (d′ .run)
+    passed : (d′ : Content) → Spells text d′ → (x : Option Complaint) → complaint (textTests d′) ≡ x → answered (d .run) ≡ reply x (d′ .run)
         → stored x [] (d′ .entries) ≡ d .entries → Spells text d × Passes (textTests d)
-    judged d′ s none c e h =
+    passed d′ s none c e h =
         let runs : d .run ≡ d′ .run = cc in
         let same : d′ ≡ d = λ k. record { run = sym runs k; entries = h k } in
         subst (λ z. Spells text z × Passes (textTests z)) same (s, record { is = c })
-    judged d′ s (some b) c e h = absurd (let z : _≡_ {A = ℕ} 0 1 = cc in omega arith)
+    passed d′ s (some b) c e h = absurd (let z : _≡_ {A = ℕ} 0 1 = cc in omega arith)
 
     go : (o : Option Content) → Reads text o → answered (d .run) ≡ replyTo o → handed o ≡ d .entries → Spells text d × Passes (textTests d)
     go none r e h = absurd (let z : _≡_ {A = ℕ} 0 1 = cc in omega arith)
-    go (some d′) r e h = judged d′ r (complaint (textTests d′)) refl e h
+    go (some d′) r e h = passed d′ r (complaint (textTests d′)) refl e h
 
     back : Spells text d × Passes (textTests d) → (input .answer ≡ Read (d .run)) × (sourcesOf input ≡ d .entries)
     back s =

@@ -1,5 +1,5 @@
 -- What the inner steps of reading answer, from `at` on in the text: where that ends which stands there, or the refusal where nothing of the kind does.
--- A refusal carries its number from where it arises, and each step hands it on.
+-- A refusal carries its reason from where it arises, and each step hands it on.
 use Prim.Native.Nat.{ℕ, _≤_}
 use mathlib.Core.Path.{_≡_}
 use mathlib.Core.List.{List, [], _∷_}
@@ -11,15 +11,16 @@ use Rattle.words.specs.Inner.{Spelled, Line, NoLine}
 use Rattle.words.specs.declared.Found.{Found}
 use Rattle.words.specs.declared.Found.the-variants.{Next, Refused}
 use Rattle.scope.specs.declared.Run.{Run}
-use Rattle.scope.specs.Refusal.{Text, number}
+use Rattle.scope.specs.declared.Reason.{Reason}
+use Rattle.scope.specs.declared.Reason.the-variants.{Text}
 use Rattle.sources.specs.Entry.{Entry}
 use Rattle.sources.specs.Lists.{periodsOf, weightsOf}
 use Rattle.text.specs.Form.{runWord, srcWord, srcLines}
 use Rattle.text.specs.Promise.{Reads}
 
--- "Anything else in the text is refused 11": the number that a refusal carries.
-abbrev pub NotOfForm : ℕ → Type 0
-NotOfForm n = n ≡ number Text
+-- "Anything else in the text is refused 11": the reason that a refusal carries.
+abbrev pub NotOfForm : Reason → Type 0
+NotOfForm reason = reason ≡ Text
 
 -- The run that a line's four numbers say.
 abbrev pub runOf : List ℕ → Run
@@ -37,7 +38,7 @@ pub record SourceStored (text : List ℕ) (at : ℕ) (periods weights : List ℕ
 -- A `src` line is looked for.
 abbrev pub SourceAt : List ℕ → ℕ → List ℕ → List ℕ → ℕ → List ℕ → List ℕ → Found → Type 0
 SourceAt text at periods weights k periods′ weights′ (Next next) = SourceStored text at periods weights k periods′ weights′ next
-SourceAt text at periods weights k periods′ weights′ (Refused n) = NotOfForm n × NoLine text at srcWord 2
+SourceAt text at periods weights k periods′ weights′ (Refused reason) = NotOfForm reason × NoLine text at srcWord 2
 
 -- "decimal numbers up to 4,294,967,295", of all these lines.
 pub record ValidLines (entries : List Entry) : Type 0 where
@@ -71,7 +72,7 @@ pub record LinesListed (text : List ℕ) (at : ℕ) (periods weights periods′ 
 -- `src` lines are looked for, up to the end; of the lists nothing is said where something else stands.
 abbrev pub SourcesAt : List ℕ → ℕ → List ℕ → List ℕ → List ℕ → List ℕ → ℕ → Found → Type 0
 SourcesAt text at periods weights periods′ weights′ count (Next next) = LinesListed text at periods weights periods′ weights′ count next
-SourcesAt text at periods weights periods′ weights′ count (Refused n) = NotOfForm n × NoLines text at
+SourcesAt text at periods weights periods′ weights′ count (Refused reason) = NotOfForm reason × NoLines text at
 
 -- The text is a `run` line with these numbers and, after it, so many `src` lines, whose numbers the two lists have.
 pub record AllLines (text numbers periods weights periods′ weights′ : List ℕ) (count next : ℕ) : Type 0 where
@@ -83,4 +84,4 @@ pub record AllLines (text numbers periods weights periods′ weights′ : List �
 -- The lines of a whole text are looked for.
 abbrev pub LinesAt : List ℕ → List ℕ → List ℕ → List ℕ → List ℕ → List ℕ → ℕ → Found → Type 0
 LinesAt text numbers periods weights periods′ weights′ count (Next next) = AllLines text numbers periods weights periods′ weights′ count next
-LinesAt text numbers periods weights periods′ weights′ count (Refused n) = NotOfForm n × Reads text none
+LinesAt text numbers periods weights periods′ weights′ count (Refused reason) = NotOfForm reason × Reads text none

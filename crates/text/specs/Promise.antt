@@ -8,7 +8,11 @@ use lib.ListN.{length, take}
 use Rattle.rooms.specs.Lists.{zeros, padded}
 use Rattle.scope.specs.declared.Run.{Run}
 use Rattle.scope.specs.Run.{ceiling, cellsOf}
-use Rattle.scope.specs.Refusal.{Tests, _when_, _andThen_, TooMany, Text, complaint, number, runTests}
+use Rattle.scope.specs.Refusal.{Tests, _when_, _andThen_, complaint, number, runTests}
+use Rattle.scope.specs.declared.Reason.{Reason}
+use Rattle.scope.specs.declared.Reason.the-variants.{TooMany, Text}
+use Rattle.scope.specs.declared.Place.{Place}
+use Rattle.scope.specs.declared.Place.the-variants.{Nowhere}
 use Rattle.scope.specs.Reply.{Said, refused, answered, reply, stored}
 use Rattle.sources.specs.Entry.{Entry, entriesOf, listTests}
 use Rattle.sources.specs.Lists.{periodsOf, weightsOf}
@@ -30,7 +34,7 @@ mostSources = 64
 abbrev pub mostCells : ℕ
 mostCells = 65536
 
--- "Text: 11, 1, 2, 3, 12, then each source 4 before 7", after 11.
+-- "Text: 11, 1, 2, 3, 12, then each source 4 before 7", after 11, with 16, 17, 18 for 2 (E1).
 unfoldable pub textTests : Content → Tests
 textTests content =
     runTests (content .run) andThen
@@ -40,7 +44,7 @@ textTests content =
 
 -- What the reply is to be. "Anything else in the text is refused 11."
 abbrev pub replyTo : Option Content → Said Run
-replyTo none = refused (number Text)
+replyTo none = refused (number Text) Nowhere
 replyTo (some content) = reply (complaint (textTests content)) (content .run)
 
 -- The sources that go with it: after a refusal none.
@@ -48,10 +52,10 @@ abbrev pub handed : Option Content → List Entry
 handed none = []
 handed (some content) = stored (complaint (textTests content)) [] (content .entries)
 
--- 01's number and values for each case of the answer.
+-- What a reply to a text says: the run, or a refusal's number and place.
 abbrev pub saysText : Answer → Said Run
 saysText (Read run) = answered run
-saysText (Refused number) = refused number
+saysText (Refused reason place) = refused (number reason) place
 
 -- The promise of reading a text: its reply, and the sources that go with it.
 pub record TextPromise (text : List ℕ) (input : Input) : Type 0 where
@@ -66,6 +70,6 @@ pub record TextPromise (text : List ℕ) (input : Input) : Type 0 where
 abbrev pub sourcesOf : Input → List Entry
 sourcesOf input = entriesOf (take (input .count) (input .periods)) (take (input .count) (input .weights))
 
--- A refusal's number with no source.
-abbrev pub refusal : ℕ → Input
-refusal n = record { answer = Refused n; count = 0; periods = zeros mostSources; weights = zeros mostSources }
+-- A refusal, and nothing handed out with it.
+abbrev pub refusal : Reason → Place → Input
+refusal reason place = record { answer = Refused reason place; count = 0; periods = zeros mostSources; weights = zeros mostSources }

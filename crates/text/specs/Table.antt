@@ -2,23 +2,25 @@
 use Prim.Native.Nat.{ℕ, _<_}
 use mathlib.Core.Path.{_≡_}
 use mathlib.Core.Logic.{_⊎_}
-use mathlib.Core.List.{List, _∷_, _++_}
+use mathlib.Core.List.{List, [], _∷_, _++_}
 use mathlib.Core.Option.{none}
 use lib.ListN.{length}
 use Rattle.scope.specs.Run.{cellsOf}
+use Rattle.scope.specs.declared.Place.{Place}
 use Rattle.scope.specs.Table.{Row, _given_, Says, runTable}
 use Rattle.sources.specs.Table.{sourcesTable}
 use Rattle.text.specs.Form.{Content, Spells}
 use Rattle.text.specs.Promise.{mostSources, mostCells, Reads}
 
--- "Text: 11, 1, 2, 3, 12, then each source 4 before 7": what follows 11, of what the text says.
+-- "Text: 11, 1, 2, 3, 12, then each source 4 before 7", with 16, 17, 18 for 2 (E1): what follows 11, of what the text
+-- says.
 abbrev pub textTable : Content → List Row
 textTable content =
     runTable (content .run) ++
     12 given ((mostSources < length (content .entries)) ⊎ (mostCells < cellsOf (content .run))) ∷
-    sourcesTable (content .entries)
+    sourcesTable 1 (content .entries)
 
--- The table of a text says n. "Anything else in the text is refused 11": no run and sources are what it says; else what the
+-- The table of a text says n, at a place. "Anything else in the text is refused 11": no run and sources are what it says; else what the
 -- table of its content says.
-abbrev pub SaysOfText : List ℕ → ℕ → Type 0
-SaysOfText text n = ((11 ≡ n) × Reads text none) ⊎ ((content : Content) × Spells text content × Says (textTable content) n)
+abbrev pub SaysOfText : List ℕ → ℕ → Place → Type 0
+SaysOfText text n place = Says (11 given Reads text none ∷ []) n place ⊎ ((content : Content) × Spells text content × Says (textTable content) n place)

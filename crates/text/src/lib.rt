@@ -1,12 +1,15 @@
 // The text that the list program reads: a run and its sources, or the refusal.
 // Every function is proved. `read_text` is the one public operation here, and it asks nothing of its caller.
+use scope::Place;
+use scope::Reason;
 use scope::Run;
 use scope::Verdict;
 use words::Found;
 ghost use mathlib.Core.Path.{_≡_};
 ghost use lib.Dec.{ltb};
 ghost use lib.ListN.{length};
-ghost use Rattle.scope.specs.Refusal.{_when_, TooMany, complaint};
+ghost use Rattle.scope.specs.Refusal.{_when_, complaint};
+ghost use Rattle.scope.specs.declared.Reason.the-variants.{TooMany};
 ghost use Rattle.scope.specs.Inner.{verdict};
 ghost use Rattle.text.specs.Promise.{mostSources, refusal, TextPromise};
 ghost use Rattle.text.specs.Inner.{SourceAt, SourcesAt, LinesAt, runOf};
@@ -17,15 +20,13 @@ const LONGEST: usize = 4096;
 const SOURCES: usize = 64;
 // and a run of so many cells.
 const CELLS: u64 = 65536;
-// The number of the refusal of a text that has not the form: "text not of the form below".
-const FORM: u8 = 11;
 
 // The reply of reading a text.
 pub enum Answer {
     // The run.
     Read(Run),
-    // The refusal's number.
-    Refused(u8),
+    // Why it is refused, and where.
+    Refused(Reason, Place),
 }
 
 // The reply with the sources: how many there are, and their periods and weights at the beginning of the two lists.
@@ -42,7 +43,7 @@ fn read_source(text: &[u8], at: usize, periods: &mut [u32], weights: &mut [u32],
     ensures { λ r. ⌜ SourceAt (now (text .entry)) at (now (periods .entry)) (now (weights .entry)) k (now (periods .exit)) (now (weights .exit)) r ⌝ }
 {
     let mut numbers = [0u32; 2];
-    let line = words::read_line(text, at, b"src", &mut numbers, FORM);
+    let line = words::read_line(text, at, b"src", &mut numbers, Reason::Text);
     let Found::Next(next) = line else {
         return line;
     };
@@ -88,9 +89,9 @@ fn read_lines(
     ensures { λ r. ⌜ LinesAt (now (text .entry)) (now (numbers .exit)) (now (periods .entry)) (now (weights .entry)) (now (periods .exit)) (now (weights .exit)) (now (count .exit)) r ⌝ }
 {
     if LONGEST < text.len() {
-        return Found::Refused(FORM);
+        return Found::Refused(Reason::Text);
     }
-    let run = words::read_line(text, 0, b"run", numbers, FORM);
+    let run = words::read_line(text, 0, b"run", numbers, Reason::Text);
     let Found::Next(at) = run else {
         return run;
     };
@@ -109,22 +110,22 @@ fn run_of(numbers: [u32; 4]) -> Run
     }
 }
 
-// What 01's table says of a number of sources: 12 for more than 64.
+// What the table says of a number of sources: 12 for more than 64.
 fn judge_count(count: usize) -> Verdict
     ensures { λ r. ⌜ r ≡ verdict (complaint (TooMany when ltb mostSources count)) ⌝ }
 {
     if SOURCES < count {
-        return Verdict::Refused(12);
+        return Verdict::Refused(Reason::TooMany, Place::Nowhere);
     }
     Verdict::Fine
 }
 
 // A refusal, and nothing with it.
-fn refuse(number: u8) -> Input
-    ensures { λ r. ⌜ r ≡ refusal number ⌝ }
+fn refuse(reason: Reason, place: Place) -> Input
+    ensures { λ r. ⌜ r ≡ refusal reason place ⌝ }
 {
     Input {
-        answer: Answer::Refused(number),
+        answer: Answer::Refused(reason, place),
         count: 0,
         periods: [0; SOURCES],
         weights: [0; SOURCES],
@@ -133,7 +134,8 @@ fn refuse(number: u8) -> Input
 
 // Public operation. The run and the sources that a text has, or the refusal.
 // All lines are read before the first number is judged: what is not of the form comes before what is not within the limits.
-// Refused, in this order: 11 for the form, 1, 2, 3 for the run, 12 for too many sources or cells, 4 or 7 for the first source at fault.
+// Refused, in this order: 11 for the form, 1, 16, 17, 18, 3 for the run, 12 for too many sources or cells, 4 or 7 for the first source
+// at fault, with its place.
 pub fn read_text(text: &[u8]) -> Input
     ensures { λ r. ⌜ TextPromise (now (text .entry)) r ⌝ }
 {
@@ -141,26 +143,29 @@ pub fn read_text(text: &[u8]) -> Input
     let mut periods = [0u32; SOURCES];
     let mut weights = [0u32; SOURCES];
     let mut count: usize = 0;
-    if let Found::Refused(number) = read_lines(
+    if let Found::Refused(reason) = read_lines(
         text,
         &mut numbers,
         &mut periods,
         &mut weights,
         &mut count,
     ) {
-        return refuse(number);
+        return refuse(reason, Place::Nowhere);
     }
     let run = run_of(numbers);
     let of_run = scope::judge_run(run);
     let of_count = judge_count(count);
-    if let Verdict::Refused(number) = scope::first_of(of_run, of_count) {
-        return refuse(number);
+    if let Verdict::Refused(reason, place) = scope::first_of(of_run, of_count) {
+        return refuse(reason, place);
     }
     if CELLS < scope::cells(run) {
-        return refuse(12);
+        return refuse(Reason::TooMany, Place::Nowhere);
     }
-    if let Verdict::Refused(number) = sources::judge_entries(&periods[..count], &weights[..count]) {
-        return refuse(number);
+    if let Verdict::Refused(reason, place) = sources::judge_entries(
+        &periods[..count],
+        &weights[..count],
+    ) {
+        return refuse(reason, place);
     }
     Input {
         answer: Answer::Read(run),

@@ -1,31 +1,137 @@
 // 01's two bench figures without a star, by running the calls: a window of 6 with a period of 4, which crate figures proves as well,
-// and the last line there is.
-use hits::FirstHit;
+// and the last line there is, which is 18 since E1. Then line limits, and sources at fault in a list, two faults at a time, as 02 has them refused.
+use crate::files;
+use crate::listing;
+use crate::mapping;
+use crate::reports;
+use crate::texts;
 use scope::Run;
-use scope::RunCell;
-use scope::Source;
+use trying::reference::Refusal;
+use trying::reference::plain;
+use trying::refusals;
+use trying::tally;
 use vectors::Steps;
 
 // I 6 with p 4: refused 6.
 pub fn wide_is_refused() -> bool {
     match vectors::step_vectors(4, 1, 6) {
-        Steps::Refused(number) => number == 6,
+        Steps::Refused(reason, place) => refusals::same(reason, place, plain(6)),
         Steps::Pair(_, _) => false,
         Steps::Single(_) => false,
     }
 }
 
-// Whether a run up to a line is refused with a number, or for 0 accepted.
-pub fn last_says(last: u32, number: u8) -> bool {
-    let run = Run {
+// A run with a window of 4.
+fn run_of(interval: u32, first: u32, last: u32) -> Run {
+    Run {
         window: 4,
-        interval: 10,
-        first: 1,
+        interval,
+        first,
         last,
-    };
-    match hits::first_hit(run, Source { period: 7 }, RunCell(0)) {
-        FirstHit::Refused(said) => said == number,
-        FirstHit::At(_) => number == 0,
-        FirstHit::Nothing => number == 0,
     }
+}
+
+// The last line 16,777,216 is accepted, 16,777,217 is refused 18.
+pub fn try_last(ledger: &mut [u64]) {
+    let last = run_of(10, 1, 16777216);
+    let above = run_of(10, 1, 16777217);
+    tally::count(ledger, tally::LAST, listing::first_says(plain(0), last, 7));
+    tally::count(
+        ledger,
+        tally::LAST,
+        listing::first_says(plain(18), above, 7),
+    );
+}
+
+// Tries a run with these lines and an interval of 0 in every call with a run, with sources at fault where there are any: each call is
+// to refuse with this number. The text is that of the run alone, and what is to be printed of it is given.
+fn try_lines(
+    ledger: &mut [u64],
+    line: usize,
+    first: u32,
+    last: u32,
+    number: u8,
+    text: &[u8],
+    printed: &[u8],
+) {
+    let run = run_of(0, first, last);
+    let refusal = plain(number);
+    let mapped = mapping::refused(refusal, run, [7, 0], [256, 0], 20);
+    tally::count(ledger, line, listing::first_says(refusal, run, 0));
+    tally::count(ledger, line, listing::refused(refusal, run, 0, 0, 8));
+    tally::count(ledger, line, mapped);
+    tally::count(ledger, line, files::save_refused(refusal, run));
+    tally::count(ledger, line, files::read_says(refusal, run));
+    tally::count(ledger, line, texts::reads(text, refusal));
+    tally::count(ledger, line, reports::reports(text, printed));
+}
+
+// Line limits, none broken alone: the interval is 0 in every run, and the last line above its limit beside a first line of 0 and beside
+// one after it.
+pub fn try_limits(ledger: &mut [u64]) {
+    let first = b"run 4 0 0 16777217\n";
+    let order = b"run 4 0 7 6\n";
+    let high = b"run 4 0 16777219 16777218\n";
+    let last = b"run 4 0 1 16777217\n";
+    try_lines(
+        ledger,
+        tally::FIRST_LINE,
+        0,
+        16777217,
+        16,
+        first,
+        b"refused 16\n",
+    );
+    try_lines(ledger, tally::LINE_ORDER, 7, 6, 17, order, b"refused 17\n");
+    try_lines(
+        ledger,
+        tally::HIGH_ORDER,
+        16777219,
+        16777218,
+        17,
+        high,
+        b"refused 17\n",
+    );
+    try_lines(
+        ledger,
+        tally::LAST_LINE,
+        1,
+        16777217,
+        18,
+        last,
+        b"refused 18\n",
+    );
+}
+
+// A text whose second and third source are at fault, the second in both numbers: read and reported.
+fn try_text(ledger: &mut [u64]) {
+    let text = b"run 4 10 1 5\nsrc 7 60\nsrc 0 0\nsrc 9 0\n";
+    let refusal = Refusal {
+        number: 4,
+        place: 2,
+    };
+    tally::count(ledger, tally::TEXT_SOURCE, texts::reads(text, refusal));
+    tally::count(
+        ledger,
+        tally::TEXT_SOURCE,
+        reports::reports(text, b"refused 4 source 2\n"),
+    );
+}
+
+// Sources at fault, in a text and in a map call with a map one cell short; and files with a first line of 1 and of 0.
+pub fn try_places(ledger: &mut [u64]) {
+    let run = run_of(10, 1, 5);
+    let refusal = Refusal {
+        number: 7,
+        place: 2,
+    };
+    let mapped = mapping::refused(refusal, run, [7, 3], [60, 256], 19);
+    try_text(ledger);
+    tally::count(ledger, tally::MAP_SOURCE, mapped);
+    tally::count(ledger, tally::FILE_LINE, files::read_says(plain(0), run));
+    tally::count(
+        ledger,
+        tally::FILE_LINE,
+        files::read_says(plain(16), run_of(10, 0, 5)),
+    );
 }

@@ -1,5 +1,5 @@
 // Saved maps, saved and read, compared with 01's layout. A file that is read has up to two bytes changed, most often with the check put
-// right again.
+// right again, and one time in four other lines in block 0.
 use saved::Loaded;
 use saved::Saved;
 use scope::Run;
@@ -8,15 +8,34 @@ use trying::draw::Case;
 use trying::layout;
 use trying::numbers;
 use trying::reference;
+use trying::reference::Refusal;
 use trying::reference::first_of;
+use trying::reference::plain;
 use trying::reference::when;
+use trying::refusals;
+use trying::tally;
 
-// The number that saving refuses with; 0 if it does not.
-fn says(reply: Saved) -> u8 {
+// Whether a reply of saving is a refusal, or for none is not.
+fn says(reply: Saved, refusal: Refusal) -> bool {
     match reply {
-        Saved::Done => 0,
-        Saved::Refused(number) => number,
+        Saved::Done => refusal.number == 0,
+        Saved::Refused(reason, place) => refusals::same(reason, place, refusal),
     }
+}
+
+// Whether saving a map is refused so and leaves a room, or for no refusal makes of it the file as laid down. Another room is the same
+// before.
+fn saves_as(refusal: Refusal, run: Run, map: &[u8], file: &mut [u8], expected: &mut [u8]) -> bool {
+    layout::lay_down(refusal, run, map, expected);
+    says(saved::save(run, map, file), refusal) && numbers::same_bytes(file, expected)
+}
+
+// Whether saving a map of 20 cells is refused so and leaves the room.
+pub fn save_refused(refusal: Refusal, run: Run) -> bool {
+    let map = [1u8; 20];
+    let mut file = [170u8; 1024];
+    let mut expected = [170u8; 1024];
+    saves_as(refusal, run, &map, &mut file, &mut expected)
 }
 
 // Whether saving a map makes of a room with other bytes the file as laid down, or refuses and leaves it.
@@ -24,9 +43,8 @@ fn saves(run: Run, map: &[u8], file: &mut [u8], expected: &mut [u8]) -> bool {
     let cells = map.len();
     let room = file.len() != reference::file_length(cells);
     let lengths = when(reference::cells(run) != cells || room, 9);
-    let number = first_of(reference::judge_run(run), lengths);
-    layout::lay_down(number, run, map, expected);
-    says(saved::save(run, map, file)) == number && numbers::same_bytes(file, expected)
+    let refusal = first_of(reference::judge_run(run), lengths);
+    saves_as(refusal, run, map, file, expected)
 }
 
 // The same with the first cells of a map, and room for so many bytes.
@@ -60,19 +78,37 @@ pub fn saving_agrees(case: Case, state: u64) -> bool {
     )
 }
 
-// Whether reading makes of a room with other bytes the file's map and answers with its run, or refuses and leaves the room.
-fn reads(file: &[u8], room: &mut [u8], expected: &mut [u8]) -> bool {
-    let number = layout::judge(file, room.len());
-    layout::put_cells(number, file, expected);
+// Whether reading is refused so and leaves a room, or for no refusal makes of it the file's map and answers with the file's run.
+// Another room is the same before.
+fn reads_as(refusal: Refusal, file: &[u8], room: &mut [u8], expected: &mut [u8]) -> bool {
+    layout::put_cells(refusal, file, expected);
     let fine = match saved::read(file, room) {
-        Loaded::Refused(said) => number != 0 && said == number,
-        Loaded::Of(run) => number == 0 && reference::same_run(run, layout::run_of(file)),
+        Loaded::Refused(reason, place) => refusals::same(reason, place, refusal),
+        Loaded::Of(run) => refusal.number == 0 && reference::same_run(run, layout::run_of(file)),
     };
     fine && numbers::same_bytes(room, expected)
 }
 
+// Whether a file of two blocks, both checks right, with a run in block 0 and 20 cells, is read so.
+pub fn read_says(refusal: Refusal, run: Run) -> bool {
+    let map = [1u8; 20];
+    let mut file = [0u8; 1024];
+    let mut room = [170u8; 20];
+    let mut expected = [170u8; 20];
+    layout::lay_down(plain(0), run, &map, &mut file);
+    reads_as(refusal, &file, &mut room, &mut expected)
+}
+
+// Whether reading makes of a room with other bytes the file's map and answers with its run, or refuses and leaves the room.
+fn reads(ledger: &mut [u64], file: &[u8], room: &mut [u8], expected: &mut [u8]) -> bool {
+    let refusal = layout::judge(file, room.len());
+    let fine = reads_as(refusal, file, room, expected);
+    tally::count_limits(ledger, layout::run_of(file), refusal, fine);
+    fine
+}
+
 // The same with the first bytes of a file, and room for so many cells.
-fn reads_first(file: &[u8], bytes: usize, size: usize) -> bool {
+fn reads_first(ledger: &mut [u64], file: &[u8], bytes: usize, size: usize) -> bool {
     let mut room = [170u8; 1025];
     let mut expected = [170u8; 1025];
     if file.len() < bytes {
@@ -81,7 +117,12 @@ fn reads_first(file: &[u8], bytes: usize, size: usize) -> bool {
     if 1025 < size {
         return false;
     }
-    reads(&file[0..bytes], &mut room[0..size], &mut expected[0..size])
+    reads(
+        ledger,
+        &file[0..bytes],
+        &mut room[0..size],
+        &mut expected[0..size],
+    )
 }
 
 // A position of a file: of a block's number, in the heading, in its filling, near the end of the last block, or anywhere.
@@ -113,12 +154,12 @@ fn damage(file: &mut [u8], bytes: usize, state: u64) {
 // Puts the file of a run and a random map.
 fn lay_down_drawn(run: Run, map: &mut [u8], file: &mut [u8], state: u64) {
     numbers::draw_bytes(map, state);
-    layout::lay_down(0, run, map, file);
+    layout::lay_down(plain(0), run, map, file);
 }
 
-// Whether the file of a case and a random map is read as it is to be, with up to two bytes changed and a wrong length here and there.
-// After it stand sound blocks.
-pub fn reading_agrees(case: Case, state: u64) -> bool {
+// Whether the file of a case and a random map is read as it is to be, with other lines, up to two bytes changed and a wrong length
+// here and there. After it stand sound blocks.
+pub fn reading_agrees(ledger: &mut [u64], case: Case, state: u64) -> bool {
     let mut map = [0u8; 1024];
     let mut file = [0u8; 2560];
     let cells = reference::cells(case.run);
@@ -126,10 +167,17 @@ pub fn reading_agrees(case: Case, state: u64) -> bool {
     if 1024 < cells {
         return false;
     }
-    lay_down_drawn(case.run, &mut map[0..cells], &mut file, state);
+    let b = numbers::next(state);
+    lay_down_drawn(
+        draw::spoilt_lines(case.run, numbers::next(b)),
+        &mut map[0..cells],
+        &mut file,
+        state,
+    );
     damage(&mut file, bytes, state);
-    damage(&mut file, bytes, numbers::next(state));
+    damage(&mut file, bytes, b);
     reads_first(
+        ledger,
         &file,
         draw::length(bytes, 512, state >> 26),
         draw::length(cells, 1, state >> 20),

@@ -10,8 +10,10 @@ use trying::draw::Case;
 use trying::numbers;
 use trying::reference;
 use trying::reference::Listed;
+use trying::reference::Refusal;
 use trying::reference::first_of;
 use trying::reference::when;
+use trying::refusals;
 
 // What a room holds before a call. It is no cell of any run.
 const NO_CELL: u64 = 18446744073709551614;
@@ -23,7 +25,7 @@ fn first_mark(marks: &[u8], start: u64) -> u64 {
 }
 
 // The refusals of first hit and listing, but for an empty room.
-fn judge(run: Run, period: u32, start: u64) -> u8 {
+fn judge(run: Run, period: u32, start: u64) -> Refusal {
     let outside = when(reference::cells(run) as u64 <= start, 8);
     first_of(
         reference::judge_run(run),
@@ -45,14 +47,14 @@ fn first_is(reply: FirstHit, run: Run, period: u32, start: u64, marks: &mut [u8]
     match reply {
         FirstHit::At(cell) => hit < all && cell.0 == hit,
         FirstHit::Nothing => hit == all,
-        FirstHit::Refused(_) => false,
+        FirstHit::Refused(_, _) => false,
     }
 }
 
-// Whether a reply of the first hit is a refusal with a number.
-fn first_refused(reply: FirstHit, number: u8) -> bool {
+// Whether a reply of the first hit is this refusal.
+fn first_refused(reply: FirstHit, refusal: Refusal) -> bool {
     match reply {
-        FirstHit::Refused(said) => said == number,
+        FirstHit::Refused(reason, place) => refusals::same(reason, place, refusal),
         FirstHit::At(_) => false,
         FirstHit::Nothing => false,
     }
@@ -61,10 +63,19 @@ fn first_refused(reply: FirstHit, number: u8) -> bool {
 // Whether a reply of the first hit is no refusal.
 fn first_accepted(reply: FirstHit) -> bool {
     match reply {
-        FirstHit::Refused(_) => false,
+        FirstHit::Refused(_, _) => false,
         FirstHit::At(_) => true,
         FirstHit::Nothing => true,
     }
+}
+
+// Whether the first hit of a source from cell 0 on is refused so, or for no refusal is not.
+pub fn first_says(refusal: Refusal, run: Run, period: u32) -> bool {
+    let reply = hits::first_hit(run, Source { period }, RunCell(0));
+    if refusal.number == 0 {
+        return first_accepted(reply);
+    }
+    first_refused(reply, refusal)
 }
 
 // Whether the first hit of a case, with a fault here and there, is as it is to be. Of a run with more than 1,024 cells only that
@@ -74,11 +85,11 @@ pub fn first_hit_agrees(case: Case, state: u64) -> bool {
     let run = draw::spoilt_run(case.run, state);
     let period = draw::maybe(case.period, state >> 9, 16);
     let start = draw_start(run, state);
-    let number = judge(run, period, start);
+    let refusal = judge(run, period, start);
     let cells = reference::cells(run);
     let reply = hits::first_hit(run, Source { period }, RunCell(start));
-    if number != 0 {
-        return first_refused(reply, number);
+    if refusal.number != 0 {
+        return first_refused(reply, refusal);
     }
     if 1024 < cells {
         return first_accepted(reply);
@@ -95,7 +106,7 @@ fn turned_is(run: Run, period: u32, first: u32, marks: &mut [u8]) -> bool {
     match hits::first_hit(turning::block_of(run, first), Source { period }, RunCell(0)) {
         FirstHit::At(cell) => turning::in_run(run, first, cell).0 == hit,
         FirstHit::Nothing => hit == marks.len() as u64,
-        FirstHit::Refused(_) => false,
+        FirstHit::Refused(_, _) => false,
     }
 }
 
@@ -123,7 +134,7 @@ fn reply_is(reply: Listing, expected: Listed, all: u64) -> bool {
         Listing::More(count, cell) => count == expected.count
             && expected.next < all
             && cell.0 == expected.next,
-        Listing::Refused(_) => false,
+        Listing::Refused(_, _) => false,
     }
 }
 
@@ -194,24 +205,25 @@ fn list_marked(run: Run, period: u32, start: u64, marks: &mut [u8], state: u64) 
     list_all(run, period, start, marks, state)
 }
 
-// Whether listing is refused with a number, a room of so many places, up to 8, left as it was.
-fn refused(run: Run, period: u32, start: u64, size: usize, number: u8) -> bool {
+// Whether listing is refused so, a room of so many places, up to 8, left as it was.
+pub fn refused(refusal: Refusal, run: Run, period: u32, start: u64, size: usize) -> bool {
     let mut room = [NO_CELL; 8];
     if 8 < size {
         return false;
     }
-    refused_in(run, period, start, &mut room[0..size], number)
+    refused_in(refusal, run, period, start, &mut room[0..size])
 }
 
 // The same in a room of no cells.
-fn refused_in(run: Run, period: u32, start: u64, room: &mut [u64], number: u8) -> bool {
+fn refused_in(refusal: Refusal, run: Run, period: u32, start: u64, room: &mut [u64]) -> bool {
     let before = [NO_CELL; 8];
     let all = room.len();
     if 8 < all {
         return false;
     }
     match hits::list_hits(run, Source { period }, RunCell(start), room) {
-        Listing::Refused(said) => said == number && numbers::same_longs(room, &before[0..all]),
+        Listing::Refused(reason, place) => refusals::same(reason, place, refusal)
+            && numbers::same_longs(room, &before[0..all]),
         Listing::Done(_) => false,
         Listing::More(_, _) => false,
     }
@@ -224,7 +236,7 @@ fn accepted(run: Run, period: u32, start: u64, size: usize) -> bool {
         return false;
     }
     match hits::list_hits(run, Source { period }, RunCell(start), &mut room[0..size]) {
-        Listing::Refused(_) => false,
+        Listing::Refused(_, _) => false,
         Listing::Done(_) => true,
         Listing::More(_, _) => true,
     }
@@ -238,10 +250,10 @@ pub fn listing_agrees(case: Case, state: u64) -> bool {
     let period = draw::maybe(case.period, state >> 9, 16);
     let start = draw_start(run, state);
     let size = numbers::below(state, 8) as usize;
-    let number = first_of(judge(run, period, start), when(size == 0, 9));
+    let refusal = first_of(judge(run, period, start), when(size == 0, 9));
     let cells = reference::cells(run);
-    if number != 0 {
-        return refused(run, period, start, size, number);
+    if refusal.number != 0 {
+        return refused(refusal, run, period, start, size);
     }
     if 1024 < cells {
         return accepted(run, period, start, size);

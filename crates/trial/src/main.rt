@@ -1,5 +1,5 @@
-// The test program: 01's bench figures without a star, and random small runs, with a fault here and there and two at once, through
-// every operation, against a walk over all cells, 01's layout of a file and its table of refusals.
+// The test program: 01's bench figures without a star, refusals with two faults at a time, and random small runs, with a fault here
+// and there and two at once, through every operation, against a walk over all cells, 01's layout of a file and the table of refusals.
 // Each line that it prints says how many cases of a kind were tried, and how many of them were bad. Every function is proved
 // safe and ending; that none is bad is what the stored output holds the program to.
 mod figures;
@@ -54,10 +54,13 @@ fn try_hits(ledger: &mut [u64], case: Case, state: u64) {
 
 // The calls with a map, a file or a text.
 fn try_maps(ledger: &mut [u64], case: Case, state: u64) {
-    tally::count(ledger, tally::MAP, mapping::map_agrees(case, state));
+    let map = mapping::map_agrees(ledger, case, state);
+    let file = files::reading_agrees(ledger, case, state);
+    let text = texts::text_agrees(ledger, case, state);
+    tally::count(ledger, tally::MAP, map);
     tally::count(ledger, tally::SAVING, files::saving_agrees(case, state));
-    tally::count(ledger, tally::READING, files::reading_agrees(case, state));
-    tally::count(ledger, tally::TEXT, texts::text_agrees(case, state));
+    tally::count(ledger, tally::READING, file);
+    tally::count(ledger, tally::TEXT, text);
 }
 
 // Tries all random cases. The first state is fixed, so that the same are drawn each time.
@@ -74,23 +77,67 @@ fn try_all(ledger: &mut [u64]) {
     }
 }
 
-// Tries the bench figures, and texts at the length limit.
+// Tries the bench figures, refusals with two faults at a time, and texts at the length limit.
 fn try_figures(ledger: &mut [u64]) {
     tally::count(ledger, tally::WIDE, figures::wide_is_refused());
-    tally::count(ledger, tally::LAST, figures::last_says(16777216, 0));
-    tally::count(ledger, tally::LAST, figures::last_says(16777217, 2));
+    figures::try_last(ledger);
+    figures::try_limits(ledger);
+    figures::try_places(ledger);
     texts::try_long(ledger);
 }
 
-// Prints what was counted: the figures, then each call, then each kind of case.
-fn print(ledger: &[u64]) {
+// Prints what was counted of the figures.
+fn print_figures(ledger: &[u64]) {
     tally::print(ledger, tally::WIDE, b"window 6 with period 4 refused 6");
     tally::print(
         ledger,
         tally::LAST,
-        b"last line 16777216 accepted, 16777217 refused 2",
+        b"last line 16777216 accepted, 16777217 refused 18",
     );
     tally::print(ledger, tally::LONG_TEXTS, b"texts of 4096 and 4097 bytes");
+}
+
+// Prints what was counted of refusals with two faults at a time.
+fn print_refusals(ledger: &[u64]) {
+    tally::print(
+        ledger,
+        tally::FIRST_LINE,
+        b"run 4 0 0 16777217 refused 16 by every call",
+    );
+    tally::print(
+        ledger,
+        tally::LINE_ORDER,
+        b"run 4 0 7 6 refused 17 by every call",
+    );
+    tally::print(
+        ledger,
+        tally::HIGH_ORDER,
+        b"run 4 0 16777219 16777218 refused 17 by every call",
+    );
+    tally::print(
+        ledger,
+        tally::LAST_LINE,
+        b"run 4 0 1 16777217 refused 18 by every call",
+    );
+    tally::print(
+        ledger,
+        tally::TEXT_SOURCE,
+        b"text with sources 7 60, 0 0, 9 0 refused 4 source 2",
+    );
+    tally::print(
+        ledger,
+        tally::MAP_SOURCE,
+        b"map a cell short with weights 60, 256 refused 7 source 2",
+    );
+    tally::print(
+        ledger,
+        tally::FILE_LINE,
+        b"file with first line 1 accepted, 0 refused 16",
+    );
+}
+
+// Prints what was counted of each call.
+fn print_calls(ledger: &[u64]) {
     tally::print(ledger, tally::VECTORS, b"step vectors");
     tally::print(ledger, tally::FIRST_HIT, b"first hits");
     tally::print(ledger, tally::LISTING, b"listings through random rooms");
@@ -107,11 +154,25 @@ fn print(ledger: &[u64]) {
         b"files read, with up to two bytes changed",
     );
     tally::print(ledger, tally::TEXT, b"texts, one in four with its report");
+}
+
+// Prints what was counted of each kind of case.
+fn print_kinds(ledger: &[u64]) {
     tally::print(ledger, tally::PAIR, b"runs with a pair");
     tally::print(ledger, tally::SINGLE, b"runs with a single vector");
     tally::print(ledger, tally::NO_REMAINDER, b"runs with r = 0");
     tally::print(ledger, tally::SHORT, b"runs with p < I");
     tally::print(ledger, tally::EQUAL, b"runs with p = I");
+    tally::print(
+        ledger,
+        tally::TWO_LIMITS,
+        b"maps, files and texts refused for one of two line limits",
+    );
+    tally::print(
+        ledger,
+        tally::TWO_SOURCES,
+        b"maps and texts refused for one of several sources",
+    );
 }
 
 // Tries the figures, then all random cases, and prints the counts.
@@ -119,5 +180,8 @@ fn main() {
     let mut ledger = tally::ledger();
     try_figures(&mut ledger);
     try_all(&mut ledger);
-    print(&ledger);
+    print_figures(&ledger);
+    print_refusals(&ledger);
+    print_calls(&ledger);
+    print_kinds(&ledger);
 }

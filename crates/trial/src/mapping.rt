@@ -5,19 +5,22 @@ use trying::draw;
 use trying::draw::Case;
 use trying::numbers;
 use trying::reference;
+use trying::reference::Refusal;
 use trying::reference::first_of;
 use trying::reference::when;
+use trying::refusals;
+use trying::tally;
 
-// The number that the map call refuses with; 0 if it does not.
-fn says(reply: Added) -> u8 {
+// Whether a reply of the map call is a refusal, or for none is not.
+fn says(reply: Added, refusal: Refusal) -> bool {
     match reply {
-        Added::Done => 0,
-        Added::Refused(number) => number,
+        Added::Done => refusal.number == 0,
+        Added::Refused(reason, place) => refusals::same(reason, place, refusal),
     }
 }
 
-// The refusals of the map call, in 01's order, for a map of so many cells.
-fn judge(run: Run, periods: &[u32], weights: &[u32], cells: usize) -> u8 {
+// The refusals of the map call, in 01's order with E1's line limits, for a map of so many cells.
+fn judge(run: Run, periods: &[u32], weights: &[u32], cells: usize) -> Refusal {
     let lists = when(periods.len() != weights.len(), 10);
     let later = first_of(
         reference::judge_sources(periods, weights),
@@ -26,8 +29,46 @@ fn judge(run: Run, periods: &[u32], weights: &[u32], cells: usize) -> u8 {
     first_of(reference::judge_run(run), first_of(lists, later))
 }
 
+// Whether the call is refused so and leaves a map, or for no refusal makes of it what it is to be. Another map is the same before.
+fn adds_as(
+    refusal: Refusal,
+    run: Run,
+    periods: &[u32],
+    weights: &[u32],
+    map: &mut [u8],
+    expected: &mut [u8],
+) -> bool {
+    reference::expect_map(refusal, run, periods, weights, expected);
+    let reply = map::add_to_map(run, periods, weights, map);
+    says(reply, refusal) && numbers::same_bytes(map, expected)
+}
+
+// Whether the call with two sources and a map of so many cells, up to 20, is refused so and leaves the map.
+pub fn refused(
+    refusal: Refusal,
+    run: Run,
+    periods: [u32; 2],
+    weights: [u32; 2],
+    size: usize,
+) -> bool {
+    let mut map = [170u8; 20];
+    let mut expected = [170u8; 20];
+    if 20 < size {
+        return false;
+    }
+    adds_as(
+        refusal,
+        run,
+        &periods,
+        &weights,
+        &mut map[0..size],
+        &mut expected[0..size],
+    )
+}
+
 // Whether the call makes of a random map what it is to be, or refuses and leaves it.
 fn adds(
+    ledger: &mut [u64],
     run: Run,
     periods: &[u32],
     weights: &[u32],
@@ -35,16 +76,18 @@ fn adds(
     expected: &mut [u8],
     state: u64,
 ) -> bool {
-    let number = judge(run, periods, weights, map.len());
+    let refusal = judge(run, periods, weights, map.len());
     numbers::draw_bytes(map, state);
     numbers::draw_bytes(expected, state);
-    reference::expect_map(number, run, periods, weights, expected);
-    let reply = map::add_to_map(run, periods, weights, map);
-    says(reply) == number && numbers::same_bytes(map, expected)
+    let fine = adds_as(refusal, run, periods, weights, map, expected);
+    tally::count_limits(ledger, run, refusal, fine);
+    tally::count_sources(ledger, periods, weights, refusal, fine);
+    fine
 }
 
 // The same with the first of some periods, of some weights, and room for so many cells.
 fn adds_first(
+    ledger: &mut [u64],
     run: Run,
     periods: &[u32],
     count: usize,
@@ -65,6 +108,7 @@ fn adds_first(
         return false;
     }
     adds(
+        ledger,
         run,
         &periods[0..count],
         &weights[0..other],
@@ -75,12 +119,14 @@ fn adds_first(
 }
 
 // Whether the map of a case with up to five sources, with a fault here and there, is as it is to be.
-pub fn map_agrees(case: Case, state: u64) -> bool {
+pub fn map_agrees(ledger: &mut [u64], case: Case, state: u64) -> bool {
     let mut periods = [0u32; 6];
     let mut weights = [0u32; 6];
     let count = numbers::below(state, 6) as usize;
-    draw::draw_sources(&mut periods, &mut weights, case, state, 40);
+    let seldom = draw::seldom(40, state >> 40);
+    draw::draw_sources(&mut periods, &mut weights, case, state, seldom);
     adds_first(
+        ledger,
         draw::spoilt_run(case.run, state),
         &periods,
         count,

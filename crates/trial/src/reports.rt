@@ -3,9 +3,10 @@ use scope::Run;
 use trying::numbers;
 use trying::printing;
 use trying::reference;
+use trying::reference::Refusal;
 
 // Whether the report on a text is just these bytes.
-fn reports(text: &[u8], expected: &[u8]) -> bool {
+pub fn reports(text: &[u8], expected: &[u8]) -> bool {
     let output = report::report(text);
     let bytes = output.bytes;
     output.length == expected.len() && numbers::begins_with(&bytes, expected)
@@ -28,14 +29,14 @@ pub fn report_agrees(
     asked: bool,
     text: &[u8],
     end: usize,
-    number: u8,
+    refusal: Refusal,
     run: Run,
     periods: &[u32],
     weights: &[u32],
 ) -> bool {
     let mut room = [0u8; 20000];
     let mut map = [0u8; 1024];
-    let cells = if number == 0 {
+    let cells = if refusal.number == 0 {
         reference::cells(run)
     } else {
         0
@@ -49,6 +50,13 @@ pub fn report_agrees(
     if 1024 < cells {
         return true;
     }
-    let length = printing::put_answer(&mut room, number, run, periods, weights, &mut map[0..cells]);
+    let length = printing::put_answer(
+        &mut room,
+        refusal,
+        run,
+        periods,
+        weights,
+        &mut map[0..cells],
+    );
     reports_first(text, end, &room, length)
 }

@@ -4,8 +4,10 @@ use trying::draw;
 use trying::draw::Case;
 use trying::numbers;
 use trying::reference;
+use trying::reference::Refusal;
 use trying::reference::first_of;
 use trying::reference::when;
+use trying::refusals;
 use vectors::Steps;
 use vectors::Vector;
 
@@ -67,7 +69,7 @@ fn is_single(period: u32, remainder: u32, window: u32, only: Vector) -> bool {
 }
 
 // The refusals of the vectors call, in 01's order.
-fn judge(period: u32, remainder: u32, window: u32) -> u8 {
+fn judge(period: u32, remainder: u32, window: u32) -> Refusal {
     let later = first_of(when(period <= remainder, 5), when(period < window, 6));
     first_of(
         reference::judge_window(window),
@@ -78,11 +80,12 @@ fn judge(period: u32, remainder: u32, window: u32) -> u8 {
 // Whether the step vectors are as 01 says. A pair that meets its conditions is the only one, and there is none where the common
 // divisor is at least the window.
 pub fn compare(period: u32, remainder: u32, window: u32) -> bool {
-    let number = judge(period, remainder, window);
+    let refusal = judge(period, remainder, window);
+    let fine = refusal.number == 0;
     match vectors::step_vectors(period, remainder, window) {
-        Steps::Pair(left, right) => number == 0 && is_pair(period, remainder, window, left, right),
-        Steps::Single(only) => number == 0 && is_single(period, remainder, window, only),
-        Steps::Refused(said) => number != 0 && said == number,
+        Steps::Pair(left, right) => fine && is_pair(period, remainder, window, left, right),
+        Steps::Single(only) => fine && is_single(period, remainder, window, only),
+        Steps::Refused(reason, place) => refusals::same(reason, place, refusal),
     }
 }
 

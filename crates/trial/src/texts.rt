@@ -6,8 +6,11 @@ use trying::draw;
 use trying::draw::Case;
 use trying::numbers;
 use trying::reference;
+use trying::reference::Refusal;
 use trying::reference::first_of;
+use trying::reference::plain;
 use trying::reference::when;
+use trying::refusals;
 use trying::spelling;
 use trying::tally;
 
@@ -22,8 +25,8 @@ fn put_first(room: &mut [u8], run: Run, count: usize, periods: &[u32], weights: 
     spelling::put_text(room, run, &periods[0..count], &weights[0..count])
 }
 
-// Whether a text is refused with this number; or, for 0, is read as a run and sources whose text it is.
-fn reads(text: &[u8], number: u8) -> bool {
+// Whether a text is refused so; or, for no refusal, is read as a run and sources whose text it is.
+pub fn reads(text: &[u8], refusal: Refusal) -> bool {
     let mut room = [0u8; 4200];
     let input = text::read_text(text);
     let answer = input.answer;
@@ -31,26 +34,26 @@ fn reads(text: &[u8], number: u8) -> bool {
     let periods = input.periods;
     let weights = input.weights;
     let Answer::Read(run) = answer else {
-        return number_of(answer) == number && count == 0;
+        return refused(answer, refusal) && count == 0;
     };
     let end = put_first(&mut room, run, count, &periods, &weights);
-    number == 0 && end == text.len() && numbers::begins_with(&room, text)
+    refusal.number == 0 && end == text.len() && numbers::begins_with(&room, text)
 }
 
-// The number that an answer refuses with; 0 if it is none.
-fn number_of(answer: Answer) -> u8 {
+// Whether an answer is this refusal.
+fn refused(answer: Answer, refusal: Refusal) -> bool {
     match answer {
-        Answer::Read(_) => 0,
-        Answer::Refused(number) => number,
+        Answer::Read(_) => false,
+        Answer::Refused(reason, place) => refusals::same(reason, place, refusal),
     }
 }
 
 // Whether the first bytes of a room, a text of this length, are read as is expected.
-fn reads_first(room: &[u8], length: usize, number: u8) -> bool {
+fn reads_first(room: &[u8], length: usize, refusal: Refusal) -> bool {
     if room.len() < length {
         return false;
     }
-    reads(&room[0..length], number)
+    reads(&room[0..length], refusal)
 }
 
 // Puts in the place of a text's end what makes it malformed, one time in eight, and answers the new end.
@@ -71,8 +74,8 @@ fn spoil_end(room: &mut [u8], end: usize, state: u64) -> usize {
     }
 }
 
-// The refusals of a text, in 01's order, given whether it is malformed.
-fn judge(malformed: bool, run: Run, periods: &[u32], weights: &[u32]) -> u8 {
+// The refusals of a text, in 01's order with E1's line limits, given whether it is malformed.
+fn judge(malformed: bool, run: Run, periods: &[u32], weights: &[u32]) -> Refusal {
     let many = when(64 < periods.len() || 65536 < reference::cells(run), 12);
     let later = first_of(many, reference::judge_sources(periods, weights));
     first_of(
@@ -83,18 +86,22 @@ fn judge(malformed: bool, run: Run, periods: &[u32], weights: &[u32]) -> u8 {
 
 // Whether the text of a run and its sources, malformed now and then, is read as it is to be; and whether every fourth
 // is reported so.
-fn text_is(run: Run, periods: &[u32], weights: &[u32], state: u64) -> bool {
+fn text_is(ledger: &mut [u64], run: Run, periods: &[u32], weights: &[u32], state: u64) -> bool {
     let mut room = [0u8; 4200];
     let right = spelling::put_text(&mut room, run, periods, weights);
     let end = spoil_end(&mut room, right, state);
-    let number = judge(end != right, run, periods, weights);
+    let refusal = judge(end != right, run, periods, weights);
     let asked = state % 4 == 0;
-    let reported = reports::report_agrees(asked, &room, end, number, run, periods, weights);
-    reported && reads_first(&room, end, number)
+    let reported = reports::report_agrees(asked, &room, end, refusal, run, periods, weights);
+    let fine = reported && reads_first(&room, end, refusal);
+    tally::count_limits(ledger, run, refusal, fine);
+    tally::count_sources(ledger, periods, weights, refusal, fine);
+    fine
 }
 
 // The same with sources that are drawn.
 fn text_of(
+    ledger: &mut [u64],
     case: Case,
     run: Run,
     periods: &mut [u32],
@@ -103,7 +110,7 @@ fn text_of(
     state: u64,
 ) -> bool {
     draw::draw_sources(periods, weights, case, state, seldom);
-    text_is(run, periods, weights, state >> 32)
+    text_is(ledger, run, periods, weights, state >> 32)
 }
 
 // A run of 65,536 cells or just more, or as it was.
@@ -136,7 +143,7 @@ fn count_of(state: u64) -> usize {
 }
 
 // Whether the text of a case, with a fault here and there, is read and reported as it is to be.
-pub fn text_agrees(case: Case, state: u64) -> bool {
+pub fn text_agrees(ledger: &mut [u64], case: Case, state: u64) -> bool {
     let mut periods = [0u32; 65];
     let mut weights = [0u32; 65];
     let count = count_of(state >> 3);
@@ -144,11 +151,12 @@ pub fn text_agrees(case: Case, state: u64) -> bool {
         return false;
     }
     text_of(
+        ledger,
         case,
         draw::spoilt_run(sized_run(case.run, state >> 12), state >> 1),
         &mut periods[0..count],
         &mut weights[0..count],
-        if count < 13 { 60 } else { 500 },
+        draw::seldom(if count < 13 { 60 } else { 500 }, state >> 40),
         state,
     )
 }
@@ -169,13 +177,13 @@ pub fn try_long(ledger: &mut [u64]) {
     tally::count(
         ledger,
         tally::LONG_TEXTS,
-        right == 4096 && reads(&room[0..4096], 12),
+        right == 4096 && reads(&room[0..4096], plain(12)),
     );
     periods[0] = 10000;
     let long = spelling::put_text(&mut room, run, &periods, &weights);
     tally::count(
         ledger,
         tally::LONG_TEXTS,
-        long == 4097 && reads(&room[0..4097], 11),
+        long == 4097 && reads(&room[0..4097], plain(11)),
     );
 }

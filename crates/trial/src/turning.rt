@@ -24,10 +24,10 @@ pub fn in_run(run: Run, first: u32, cell: RunCell) -> RunCell {
         first,
         last: run.last,
     };
-    if let Verdict::Refused(_) = scope::judge_run(run) {
+    if let Verdict::Refused(_, _) = scope::judge_run(run) {
         return RunCell(WRONG);
     }
-    if let Verdict::Refused(_) = scope::judge_run(block) {
+    if let Verdict::Refused(_, _) = scope::judge_run(block) {
         return RunCell(WRONG);
     }
     if first < run.first {

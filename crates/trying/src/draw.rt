@@ -1,6 +1,6 @@
 // Random small runs and sources. They are drawn so that each kind of source comes often: a period below the window, equal to
 // it and above it, a remainder of 0, a large common factor of the period and the interval. Then a number here and there is made one
-// at which 01's table changes, so that faults come, and two at once.
+// at which the table of refusals changes, so that faults come, and two at once: of both lines, and of sources in one list too.
 use crate::numbers;
 use crate::numbers::below;
 use crate::numbers::up_to;
@@ -61,7 +61,7 @@ pub fn draw_case(state: u64) -> Case {
     }
 }
 
-// A number at which a test of 01's table changes.
+// A number at which a test of the table of refusals changes.
 fn edge(state: u64) -> u32 {
     match state % 16 {
         0 | 1 | 2 => 0,
@@ -87,17 +87,49 @@ pub fn maybe(number: u32, state: u64, seldom: u32) -> u32 {
     number
 }
 
+// A number at which a test of the lines changes.
+fn line_edge(state: u64) -> u32 {
+    match state % 8 {
+        0 | 1 => 0,
+        2 => 1,
+        3 => 16777216,
+        4 => 16777217,
+        5 => 16777218,
+        6 => 16777219,
+        _ => 4294967295,
+    }
+}
+
+// A run; or, one time in four, with such a first and such a last line, so that two of their limits are often broken at once.
+pub fn spoilt_lines(run: Run, state: u64) -> Run {
+    if below(state, 4) != 0 {
+        return run;
+    }
+    Run {
+        window: run.window,
+        interval: run.interval,
+        first: line_edge(state),
+        last: line_edge(state >> 3),
+    }
+}
+
 // A run with a fault here and there.
 pub fn spoilt_run(run: Run, state: u64) -> Run {
     let b = numbers::next(state);
     let c = numbers::next(b);
     let d = numbers::next(c);
+    let lines = spoilt_lines(run, numbers::next(d));
     Run {
         window: maybe(run.window, state, 16),
         interval: maybe(run.interval, b, 16),
-        first: maybe(run.first, c, 16),
-        last: maybe(run.last, d, 16),
+        first: maybe(lines.first, c, 16),
+        last: maybe(lines.last, d, 16),
     }
+}
+
+// How seldom a number of a source is another: as is told; or, one time in four, every third, so that two sources are often at fault.
+pub fn seldom(told: u32, state: u64) -> u32 {
+    if below(state, 4) == 0 { 3 } else { told }
 }
 
 // A length as it is to be; or, one time in sixteen, off by one or by a step.

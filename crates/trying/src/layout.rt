@@ -2,7 +2,9 @@
 // run is used here, and no code. The sizes stand as 01 has them.
 use crate::numbers;
 use crate::reference;
+use crate::reference::Refusal;
 use crate::reference::first_of;
+use crate::reference::plain;
 use crate::reference::when;
 use scope::Run;
 
@@ -80,8 +82,8 @@ fn lay_down_byte(run: Run, map: &[u8], file: &mut [u8], at: usize) {
 }
 
 // Puts a file as 01 lays it down. With a refusal it stays as it is.
-pub fn lay_down(refusal: u8, run: Run, map: &[u8], file: &mut [u8]) {
-    if refusal != 0 {
+pub fn lay_down(refusal: Refusal, run: Run, map: &[u8], file: &mut [u8]) {
+    if refusal.number != 0 {
         return;
     }
     let all = file.len();
@@ -124,7 +126,7 @@ fn zeros(file: &[u8], from: usize, end: usize) -> bool {
 }
 
 // 14: the number or the check of a block is wrong.
-fn judge_sealed(file: &[u8], block: usize) -> u8 {
+fn judge_sealed(file: &[u8], block: usize) -> Refusal {
     let block = block % 65536;
     let start = 512 * block;
     let number = number_at(file, start) as usize != block;
@@ -135,42 +137,42 @@ fn judge_sealed(file: &[u8], block: usize) -> u8 {
 }
 
 // 15 of block 0: version, bytes 5-7 or bytes 24-507 not as laid down.
-fn judge_heading(file: &[u8]) -> u8 {
+fn judge_heading(file: &[u8]) -> Refusal {
     let version = number_at(file, 4) == 1;
     when(!version || !zeros(file, 24, 508), 15)
 }
 
 // 15 of a later block: what is after a run's cells is not zero.
-fn judge_filling(file: &[u8], block: usize, cells: usize) -> u8 {
+fn judge_filling(file: &[u8], block: usize, cells: usize) -> Refusal {
     let block = block % 65536;
     let start = 512 * block + 4;
     let before = 504 * block;
     if before <= cells {
-        return 0;
+        return plain(0);
     }
     let filling = before - cells;
     if 504 < filling {
-        return 0;
+        return plain(0);
     }
     when(!zeros(file, start + (504 - filling), start + 504), 15)
 }
 
 // 14 before 15, block by block after block 0.
-fn judge_blocks(file: &[u8], cells: usize) -> u8 {
+fn judge_blocks(file: &[u8], cells: usize) -> Refusal {
     let all = file.len() / 512;
     let mut block: usize = 1;
     while block < all {
-        let number = first_of(judge_sealed(file, block), judge_filling(file, block, cells));
-        if number != 0 {
-            return number;
+        let said = first_of(judge_sealed(file, block), judge_filling(file, block, cells));
+        if said.number != 0 {
+            return said;
         }
         block += 1;
     }
-    0
+    plain(0)
 }
 
-// The refusals of reading a file into room for so many cells, in 01's order.
-pub fn judge(file: &[u8], room: usize) -> u8 {
+// The refusals of reading a file into room for so many cells, in 01's order, with E1's line limits.
+pub fn judge(file: &[u8], room: usize) -> Refusal {
     let bytes = file.len();
     let run = run_of(file);
     let cells = reference::cells(run);
@@ -183,8 +185,8 @@ pub fn judge(file: &[u8], room: usize) -> u8 {
 }
 
 // Puts the cells of a file into a map. With a refusal that stays as it is.
-pub fn put_cells(refusal: u8, file: &[u8], map: &mut [u8]) {
-    if refusal != 0 {
+pub fn put_cells(refusal: Refusal, file: &[u8], map: &mut [u8]) {
+    if refusal.number != 0 {
         return;
     }
     let all = map.len();

@@ -1,6 +1,7 @@
 // What 01 has printed of a run and its sources, from a walk over all cells.
 use crate::numbers;
 use crate::reference;
+use crate::reference::Refusal;
 use crate::spelling;
 use crate::spelling::put_number;
 use crate::spelling::put_words;
@@ -91,20 +92,30 @@ fn put_report(room: &mut [u8], run: Run, periods: &[u32], weights: &[u32], map: 
     put_end(room, cells, reference::count_above(map))
 }
 
+// Puts the line of a refusal: its number, and the place of the source that it concerns, if there is one.
+fn put_refusal(room: &mut [u8], refusal: Refusal) -> usize {
+    let word = put_words(room, 0, b"refused");
+    let number = put_number(room, word, refusal.number as u32);
+    if refusal.place == 0 {
+        return put_words(room, number, b"\n");
+    }
+    let source = put_words(room, number, b" source");
+    let place = put_number(room, source, numbers::low32(refusal.place));
+    put_words(room, place, b"\n")
+}
+
 // Puts what is to be reported on a text: its refusal, or its run and sources with their map, which is of zeros before.
 pub fn put_answer(
     room: &mut [u8],
-    number: u8,
+    refusal: Refusal,
     run: Run,
     periods: &[u32],
     weights: &[u32],
     map: &mut [u8],
 ) -> usize {
-    if number != 0 {
-        let word = put_words(room, 0, b"refused");
-        let end = put_number(room, word, number as u32);
-        return put_words(room, end, b"\n");
+    if refusal.number != 0 {
+        return put_refusal(room, refusal);
     }
-    reference::expect_map(0, run, periods, weights, map);
+    reference::expect_map(refusal, run, periods, weights, map);
     put_report(room, run, periods, weights, map)
 }

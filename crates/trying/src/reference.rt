@@ -1,7 +1,13 @@
-// What 01 says of hits, of the map and of a listing, worked out for each cell by itself, and its table of refusals. Of the library
-// only the type of a run is used here, and no code.
+// What 01 says of hits, of the map and of a listing, worked out for each cell by itself, and the table of refusals as 01 and 02 have
+// it. Of the library only the type of a run is used here, and no code.
 use crate::numbers;
 use scope::Run;
+
+// A refusal: its number, or 0 for none, and the place in its list of the source that it concerns, counted from 1, or 0 for none.
+pub struct Refusal {
+    pub number: u8,
+    pub place: u64,
+}
 
 // Source p hits cell (i, j) exactly when p divides T·j - i: when T·j + I/2 and i + I/2 leave the same remainder.
 fn is_hit(run: Run, period: u32, cell: u64) -> bool {
@@ -40,8 +46,8 @@ fn weight_at(run: Run, periods: &[u32], weights: &[u32], cell: u64) -> u32 {
 
 // Makes a map what it is to be after all sources are added: a walk over all cells. With one source of weight 1, on zeros, it marks
 // the hits. With a refusal the map stays as it is.
-pub fn expect_map(refusal: u8, run: Run, periods: &[u32], weights: &[u32], map: &mut [u8]) {
-    if refusal != 0 {
+pub fn expect_map(refusal: Refusal, run: Run, periods: &[u32], weights: &[u32], map: &mut [u8]) {
+    if refusal.number != 0 {
         return;
     }
     let all = map.len();
@@ -59,7 +65,7 @@ pub fn expect_map(refusal: u8, run: Run, periods: &[u32], weights: &[u32], map: 
 // Marks the cells that a source hits. The marks are 0 before.
 pub fn mark(run: Run, period: u32, marks: &mut [u8]) {
     let source = [period];
-    expect_map(0, run, &source, &[1], marks);
+    expect_map(plain(0), run, &source, &[1], marks);
 }
 
 // How many cells of a map are above 0.
@@ -134,50 +140,79 @@ pub fn file_length(cells: usize) -> usize {
     512 * (1 + (cells % 1099511627776 + 503) / 504)
 }
 
-// A refusal, if what it is given for is so; else 0.
-pub fn when(wrong: bool, number: u8) -> u8 {
-    if wrong { number } else { 0 }
+// A refusal that concerns no source; for 0, none at all.
+pub fn plain(number: u8) -> Refusal {
+    Refusal { number, place: 0 }
 }
 
-// The first of two refusals that is one; 0 if neither is.
-pub fn first_of(a: u8, b: u8) -> u8 {
-    if a == 0 { b } else { a }
+// The refusal with a number, if what it is given for is so; else none.
+pub fn when(wrong: bool, number: u8) -> Refusal {
+    if wrong { plain(number) } else { plain(0) }
+}
+
+// The first of two refusals that is one; none if neither is.
+pub fn first_of(a: Refusal, b: Refusal) -> Refusal {
+    if a.number == 0 { b } else { a }
 }
 
 // 1: window odd, below 2 or above 4,096.
-pub fn judge_window(window: u32) -> u8 {
+pub fn judge_window(window: u32) -> Refusal {
     when(window % 2 == 1 || window == 0 || 4096 < window, 1)
 }
 
-// 1, 2 and 3: the window, a line limit, the interval.
-pub fn judge_run(run: Run) -> u8 {
-    let lines = when(
-        run.first == 0 || run.last < run.first || 16777216 < run.last,
-        2,
-    );
-    let later = first_of(lines, when(run.interval == 0, 3));
+// 16, 17 and 18: the first line 0, the last line before the first, the last line above 16,777,216.
+fn judge_lines(first: u32, last: u32) -> Refusal {
+    let later = first_of(when(last < first, 17), when(16777216 < last, 18));
+    first_of(when(first == 0, 16), later)
+}
+
+// Whether a run breaks two line limits: never both of the first two, and never all three.
+pub fn breaks_two(run: Run) -> bool {
+    16777216 < run.last && (run.first == 0 || run.last < run.first)
+}
+
+// 1, 16, 17, 18 and 3: the window, the line limits, the interval.
+pub fn judge_run(run: Run) -> Refusal {
+    let later = first_of(judge_lines(run.first, run.last), when(run.interval == 0, 3));
     first_of(judge_window(run.window), later)
 }
 
 // 4: period 0 or above 2,147,483,647.
-pub fn judge_period(period: u32) -> u8 {
+pub fn judge_period(period: u32) -> Refusal {
     when(period == 0 || 2147483647 < period, 4)
 }
 
-// 4 before 7, source by source.
-pub fn judge_sources(periods: &[u32], weights: &[u32]) -> u8 {
+// 4 before 7: the period, then the weight 0 or above 255.
+fn judge_source(period: u32, weight: u32) -> Refusal {
+    first_of(judge_period(period), when(weight == 0 || 255 < weight, 7))
+}
+
+// 4 before 7, source by source, with the place of the source.
+pub fn judge_sources(periods: &[u32], weights: &[u32]) -> Refusal {
     let all = periods.len();
     let mut k: usize = 0;
     while k < all {
-        let weight = numbers::number_at(weights, k);
-        let number = first_of(
-            judge_period(periods[k]),
-            when(weight == 0 || 255 < weight, 7),
-        );
-        if number != 0 {
-            return number;
+        let said = judge_source(periods[k], numbers::number_at(weights, k));
+        if said.number != 0 {
+            return Refusal {
+                number: said.number,
+                place: k as u64 + 1,
+            };
         }
         k += 1;
     }
-    0
+    plain(0)
+}
+
+// How many sources of a list are at fault.
+pub fn count_at_fault(periods: &[u32], weights: &[u32]) -> u32 {
+    let all = periods.len();
+    let mut count: u32 = 0;
+    let mut k: usize = 0;
+    while k < all {
+        let said = judge_source(periods[k], numbers::number_at(weights, k));
+        count = numbers::add32(count, (said.number != 0) as u32);
+        k += 1;
+    }
+    count
 }

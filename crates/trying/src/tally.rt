@@ -1,6 +1,9 @@
 // What is counted, for each line that is printed: how many cases were tried, and how many of them were bad.
 // The counts are in a lent list of 64 numbers: those tried at the line's own number, those bad 32 further on.
 use crate::numbers;
+use crate::reference;
+use crate::reference::Refusal;
+use scope::Run;
 
 // The lines.
 pub const VECTORS: usize = 0;
@@ -35,6 +38,24 @@ pub const LAST: usize = 14;
 
 pub const LONG_TEXTS: usize = 15;
 
+pub const FIRST_LINE: usize = 16;
+
+pub const LINE_ORDER: usize = 17;
+
+pub const HIGH_ORDER: usize = 18;
+
+pub const LAST_LINE: usize = 19;
+
+pub const TEXT_SOURCE: usize = 20;
+
+pub const MAP_SOURCE: usize = 21;
+
+pub const FILE_LINE: usize = 22;
+
+pub const TWO_LIMITS: usize = 23;
+
+pub const TWO_SOURCES: usize = 24;
+
 // A list of counts, all 0.
 pub fn ledger() -> [u64; 64] {
     [0; 64]
@@ -62,6 +83,24 @@ pub fn count_if(ledger: &mut [u64], belongs: bool, line: usize, fine: bool) {
     if belongs {
         count(ledger, line, fine);
     }
+}
+
+// Counts a call whose run breaks two line limits, if it is refused for one.
+pub fn count_limits(ledger: &mut [u64], run: Run, refusal: Refusal, fine: bool) {
+    let two = reference::breaks_two(run);
+    count_if(ledger, two && 16 <= refusal.number, TWO_LIMITS, fine);
+}
+
+// Counts a call with two or more sources at fault, if it is refused for one.
+pub fn count_sources(
+    ledger: &mut [u64],
+    periods: &[u32],
+    weights: &[u32],
+    refusal: Refusal,
+    fine: bool,
+) {
+    let two = 2 <= reference::count_at_fault(periods, weights);
+    count_if(ledger, two && refusal.place != 0, TWO_SOURCES, fine);
 }
 
 // Prints what was counted under a line, after some words.

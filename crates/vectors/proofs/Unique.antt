@@ -10,9 +10,9 @@ use Rattle.lattice.proofs.Gcd.{gcd-unique}
 use Rattle.lattice.proofs.Pair.{Pair, SomePair, pair-iff, pair-gcd, reach, reached-cases}
 use Rattle.lattice.proofs.Unique as Lattice
 use borrow.Author.Tests.{leb-false, ltb-false}
-use Rattle.scope.proofs.Judged.{Passes}
+use Rattle.scope.proofs.Judged.{Passes, same-refusal}
 use Rattle.scope.proofs.Limits.{passes-when, passes-first, passes-then, valid-window}
-use Rattle.scope.specs.Refusal.{Complaint, complaint, number}
+use Rattle.scope.specs.Refusal.{Complaint, complaint}
 use Rattle.scope.specs.Reply.{Said, refused, answered}
 use Rattle.vectors.specs.declared.Vector.{Vector}
 use Rattle.vectors.specs.declared.Steps.{Steps}
@@ -76,20 +76,20 @@ said-unique none p r I (answered (pair α β γ δ)) (answered (pair α′ β′
 said-unique none p r I (answered (pair α β γ δ)) (answered (single i j)) h h′ = absurd (never-both h h′)
 said-unique none p r I (answered (single i j)) (answered (pair α β γ δ)) h h′ = absurd (never-both h′ h)
 said-unique none p r I (answered (single i j)) (answered (single i′ j′)) h h′ = let e = numbers (single-unique h h′) in cc
-said-unique none p r I (answered a) (refused n) h h′ = absurd h′
-said-unique none p r I (refused n) b h h′ = absurd h
+said-unique none p r I (answered a) (refused n place) h h′ = absurd h′
+said-unique none p r I (refused n place) b h h′ = absurd h
 
 -- what is said is the reply
 says-vectors-injective : (a b : Steps) → saysVectors a ≡ saysVectors b → a ≡ b
 says-vectors-injective (reply.Pair l g) (reply.Pair l′ g′) e = ap₂ reply.Pair (same (cc) (cc)) (same (cc) (cc))
 says-vectors-injective (reply.Pair l g) (reply.Single v) e = cc
-says-vectors-injective (reply.Pair l g) (reply.Refused n) e = cc
+says-vectors-injective (reply.Pair l g) (reply.Refused reason place) e = cc
 says-vectors-injective (reply.Single v) (reply.Pair l g) e = cc
 says-vectors-injective (reply.Single v) (reply.Single v′) e = ap reply.Single (same (cc) (cc))
-says-vectors-injective (reply.Single v) (reply.Refused n) e = cc
-says-vectors-injective (reply.Refused n) (reply.Pair l g) e = cc
-says-vectors-injective (reply.Refused n) (reply.Single v) e = cc
-says-vectors-injective (reply.Refused n) (reply.Refused m) e = cc
+says-vectors-injective (reply.Single v) (reply.Refused reason place) e = cc
+says-vectors-injective (reply.Refused reason place) (reply.Pair l g) e = cc
+says-vectors-injective (reply.Refused reason place) (reply.Single v) e = cc
+says-vectors-injective (reply.Refused reason place) (reply.Refused reason′ place′) e = let s = same-refusal e in ap₂ reply.Refused (s .0) (s .1)
 
 -- No second reply fits, whatever the input.
 pub vectors-unique : (p r I : ℕ) (a b : Steps) → VectorsPromise p r I a → VectorsPromise p r I b → a ≡ b
@@ -109,7 +109,7 @@ unfolding VectorsPromise vectorsTests
 vectors-exists p r I = go (complaint (vectorsTests p r I)) refl
   where
     go : (o : Option Complaint) → complaint (vectorsTests p r I) ≡ o → (steps : Steps) × Admits o p r I (saysVectors steps)
-    go (some c) e = (reply.Refused (number (c .reason)), refl)
+    go (some c) e = (reply.Refused (c .reason) (c .place), refl)
     go none e =
         let passed : Passes (vectorsTests p r I) = record { is = e } in
         let low = leb-false p r (passes-when (passes-then (passes-first passed))) in

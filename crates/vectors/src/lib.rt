@@ -1,5 +1,7 @@
 // The step vectors of Franke and Kleinjung's first proposition (document 002), and the single vector where there is no pair.
 // Every function is proved. `step_vectors` is the one public operation here, and it asks nothing of its caller.
+use scope::Place;
+use scope::Reason;
 use scope::Verdict;
 use scope::judge_period;
 use scope::judge_window;
@@ -30,8 +32,8 @@ pub enum Steps {
     Pair(Vector, Vector),
     // No pair exists: (0, p/g).
     Single(Vector),
-    // The refusal's number.
-    Refused(u8),
+    // Why it is refused, and where.
+    Refused(Reason, Place),
 }
 
 // Two successive vectors of the division sequence.
@@ -176,17 +178,17 @@ pub fn find_basis(period: u32, remainder: u32, window: u32) -> Basis
 pub fn step_vectors(period: u32, remainder: u32, window: u32) -> Steps
     ensures { λ r. ⌜ VectorsPromise period remainder window r ⌝ }
 {
-    if let Verdict::Refused(number) = judge_window(window) {
-        return Steps::Refused(number);
+    if let Verdict::Refused(reason, place) = judge_window(window) {
+        return Steps::Refused(reason, place);
     }
-    if let Verdict::Refused(number) = judge_period(period) {
-        return Steps::Refused(number);
+    if let Verdict::Refused(reason, place) = judge_period(period) {
+        return Steps::Refused(reason, place);
     }
     if period <= remainder {
-        return Steps::Refused(5);
+        return Steps::Refused(Reason::Remainder, Place::Nowhere);
     }
     if period < window {
-        return Steps::Refused(6);
+        return Steps::Refused(Reason::WiderThanPeriod, Place::Nowhere);
     }
     match find_basis(period, remainder, window) {
         Basis::Two(left, right) => Steps::Pair(left, right),

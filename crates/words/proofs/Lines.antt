@@ -15,6 +15,7 @@ use Rattle.decimal.specs.Digits.{largest, digits}
 use Rattle.decimal.specs.Inner.{beginsWithDigit, NumberStands}
 use Rattle.decimal.proofs.Laws.{digits-split}
 use Rattle.decimal.proofs.Readings.{stands}
+use Rattle.scope.specs.declared.Reason.{Reason}
 use Rattle.words.specs.Line.{fields, line}
 use Rattle.words.specs.Inner.{Spelled, NoWord, Field, NoField, FieldStored, Line, NoLine, LineAt, WordAt}
 use Rattle.words.specs.declared.Found.{Found}
@@ -82,7 +83,7 @@ module _ {text : List ℕ} {at : ℕ} {word : List ℕ} {k next : ℕ} (b : Begu
 -- ---- a refusal that is handed on
 
 -- an answer that is a refusal is, for the next step, what this refusal is
-pub hand-on : {found : Found} {n : ℕ} → found ≡ Refused n → (Says Means : Found → Type 0) → Says found → (Says (Refused n) → Means (Refused n)) → Means found
+pub hand-on : {found : Found} {reason : Reason} → found ≡ Refused reason → (Says Means : Found → Type 0) → Says found → (Says (Refused reason) → Means (Refused reason)) → Means found
 hand-on e Says Means says turn = subst Means (sym e) (turn (subst Says e says))
 
 -- ---- a space and a number
@@ -275,10 +276,10 @@ module _ {text : List ℕ} {at : ℕ} {word before room : List ℕ} {k next : �
       let less : length before - k ≡ suc (length before - (k + 1)) = omega (arith, p .long) in
       refuted (rw less (no-field n (length before - (k + 1))))
 
-  pub passing-ends : length room ≤ k → (refusal : ℕ) (f : Found) → WordAt text next (10 ∷ []) refusal f → LineAt text at word (length before) room refusal f
-  passing-ends h refusal (Next end) w =
+  pub passing-ends : length room ≤ k → (reason : Reason) (f : Found) → WordAt text next (10 ∷ []) reason f → LineAt text at word (length before) room reason f
+  passing-ends h reason (Next end) w =
       let all : room ≡ p .numbers ++ [] = p .stores ∙ ap (λ r. p .numbers ++ r) (drop-of-length-le before {i = k} (omega (arith, p .long))) in
       subst (λ ns. Line text at word ns end) (sym all) (word-joins (p .named) (numbers-join (p .numbers) (p .start) next (p .stand) (newline w)))
-  passing-ends h refusal (Refused n) w =
+  passing-ends h reason (Refused given) w =
       let none-left : length before - k ≡ 0 = omega (arith, p .long) in
       (w .0, refuted (rw none-left (no-newline (w .1))))

@@ -1,6 +1,6 @@
-//! Document 01 once more, written from its text and not from the library's code. Hits are found by looking at every cell,
-//! or in long runs at every line; step vectors by trying all vectors, or for long periods by 01's conditions on what was
-//! answered. The numbers of runs, cells and vectors are i128. An answer is `Ok`, a refusal `Err` with its number.
+//! Document 01, as request E1 of 02 has changed it, once more: written from their text and not from the library's code. Hits
+//! are found by looking at every cell, or in long runs at every line; step vectors by trying all vectors, or for long periods
+//! by 01's conditions on what was answered. The numbers of runs, cells and vectors are i128. An answer is `Ok`, a refusal `Err`.
 
 #[derive(Clone, Copy, Debug, PartialEq, Eq)]
 pub struct Run {
@@ -10,12 +10,27 @@ pub struct Run {
     pub last: i128,
 }
 
-type Reply<T> = Result<T, u8>;
+/// "A refusal carries the reason and, where it concerns a source, that place."
+#[derive(Clone, Copy, Debug, PartialEq, Eq)]
+pub struct Refusal {
+    pub number: u8,
+    pub place: Option<u64>,
+}
+
+impl Refusal {
+    /// One that concerns no source of a list.
+    pub fn alone(number: u8) -> Refusal {
+        let place = None;
+        Refusal { number, place }
+    }
+}
+
+pub type Reply<T> = Result<T, Refusal>;
 
 /// "Given when": the number, if this is so.
 fn refuse_if(wrong: bool, number: u8) -> Reply<()> {
     if wrong {
-        Err(number)
+        Err(Refusal::alone(number))
     } else {
         Ok(())
     }
@@ -33,11 +48,24 @@ fn judge_weight(weight: i128) -> Reply<()> {
     refuse_if(weight == 0 || weight > 255, 7)
 }
 
+/// "Where a source in a list is at fault (4 or 7 so far) they also want its place, counted from 1": source by source, 4
+/// before 7.
+fn judge_sources(sources: &[(i128, i128)]) -> Reply<()> {
+    for (place, &(period, weight)) in (1..).zip(sources) {
+        let judged = judge_period(period).and(judge_weight(weight));
+        let place = Some(place);
+        judged.map_err(|refusal| Refusal { place, ..refusal })?;
+    }
+    Ok(())
+}
+
 impl Run {
+    /// 1, then the line limits: "first line 0, last line before the first, last line above the limit"; then 3.
     fn judge(&self) -> Reply<()> {
         judge_window(self.window)?;
-        let broken = self.first < 1 || self.last < self.first || self.last > 16_777_216;
-        refuse_if(broken, 2)?;
+        refuse_if(self.first == 0, 16)?;
+        refuse_if(self.last < self.first, 17)?;
+        refuse_if(self.last > 16_777_216, 18)?;
         refuse_if(self.interval == 0, 3)
     }
 
@@ -141,7 +169,7 @@ pub fn step_vectors(p: i128, r: i128, window: i128) -> Reply<Steps> {
 /// Whether these are the step vectors, of any size: the conditions alone.
 pub fn are_steps(p: i128, r: i128, window: i128, steps: &Reply<Steps>) -> bool {
     match (judge_vectors(p, r, window), steps) {
-        (Err(number), _) => *steps == Err(number),
+        (Err(refusal), _) => *steps == Err(refusal),
         (Ok(()), Err(_)) => false,
         (Ok(()), Ok(Steps::Single(v))) => {
             let g = gcd(r, p);
@@ -202,14 +230,13 @@ pub fn add_to_map(
 ) -> Reply<()> {
     run.judge()?;
     refuse_if(periods.len() != weights.len(), 10)?;
-    for (&period, &weight) in periods.iter().zip(weights) {
-        judge_period(period as i128)?;
-        judge_weight(weight as i128)?;
-    }
+    let source = |(&period, &weight): (&u32, &u32)| (period as i128, weight as i128);
+    let sources: Vec<_> = periods.iter().zip(weights).map(source).collect();
+    judge_sources(&sources)?;
     refuse_if(map.len() as i128 != run.cells(), 9)?;
     let mut sums: Vec<u64> = map.iter().map(|&cell| cell as u64).collect();
-    for (&period, &weight) in periods.iter().zip(weights) {
-        for x in hits(run, period as i128) {
+    for (period, weight) in sources {
+        for x in hits(run, period) {
             sums[x as usize] += weight as u64;
         }
     }
@@ -341,12 +368,9 @@ fn parse(text: &[u8]) -> Option<(Run, Vec<(i128, i128)>)> {
 }
 
 pub fn read_text(text: &[u8]) -> Reply<(Run, Vec<(i128, i128)>)> {
-    let (run, sources) = parse(text).ok_or(11)?;
+    let (run, sources) = parse(text).ok_or(Refusal::alone(11))?;
     run.judge()?;
     refuse_if(sources.len() > 64 || run.cells() > 65_536, 12)?;
-    for &(period, weight) in &sources {
-        judge_period(period)?;
-        judge_weight(weight)?;
-    }
+    judge_sources(&sources)?;
     Ok((run, sources))
 }

@@ -35,6 +35,13 @@ pub struct ListingReply {
     pub next: u64,
 }
 
+/// What the map call came to. The place of the source at fault is counted from 1, and 0 where there is none.
+#[repr(C)]
+pub struct AddedReply {
+    pub refusal: u8,
+    pub place: u64,
+}
+
 /// A run that was read.
 #[repr(C)]
 pub struct RunReply {
@@ -45,10 +52,11 @@ pub struct RunReply {
     pub last: u32,
 }
 
-/// The run and the sources of a text.
+/// The run and the sources of a text, or the place of the source at fault, as in the map call.
 #[repr(C)]
 pub struct TextReply {
     pub run: RunReply,
+    pub place: u64,
     pub count: usize,
     pub periods: [u32; 64],
     pub weights: [u32; 64],
@@ -88,7 +96,7 @@ extern "C" {
         weights_length: usize,
         map: *mut u8,
         map_length: usize,
-    ) -> u8;
+    ) -> AddedReply;
 
     pub fn zenithgong_save(
         window: u32,

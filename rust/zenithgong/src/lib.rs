@@ -58,44 +58,64 @@ pub struct Input {
     pub sources: Vec<(u32, u32)>,
 }
 
-/// A refusal, by its number.
+/// A refusal: its number and, where a source of a list is at fault, the source's place there, counted from 1.
 #[derive(Clone, Copy, Debug, PartialEq, Eq)]
-pub struct Refusal(pub u8);
+pub struct Refusal {
+    pub number: u8,
+    pub place: Option<u64>,
+}
+
+/// What a refusal's number stands for.
+fn reason(number: u8) -> &'static str {
+    match number {
+        1 => "the window is odd, below 2 or above 4,096",
+        3 => "the interval is 0",
+        4 => "a period is 0 or above 2,147,483,647",
+        5 => "the remainder is not below the period",
+        6 => "the window is wider than the period",
+        7 => "a weight is 0 or above 255",
+        8 => "the starting cell is not in the run",
+        9 => "the listing room is empty, or the map or the file room is not of the exact length",
+        10 => "the period list and the weight list are of unequal length",
+        11 => "the text is not of the form laid down",
+        12 => "the text has more than 64 sources, or a run of more than 65,536 cells",
+        13 => "the file has no whole number of blocks, none, or not as many as its run needs",
+        14 => "a block of the file has a wrong number or check",
+        15 => "a version, spare byte or filling of the file is not as laid down",
+        16 => "the first line is 0",
+        17 => "the last line is before the first",
+        18 => "the last line is above 16,777,216",
+        _ => "unknown reason",
+    }
+}
 
 impl fmt::Display for Refusal {
     fn fmt(&self, f: &mut fmt::Formatter) -> fmt::Result {
-        let reason = match self.0 {
-            1 => "the window is odd, below 2 or above 4,096",
-            2 => "a line limit is broken",
-            3 => "the interval is 0",
-            4 => "a period is 0 or above 2,147,483,647",
-            5 => "the remainder is not below the period",
-            6 => "the window is wider than the period",
-            7 => "a weight is 0 or above 255",
-            8 => "the starting cell is not in the run",
-            9 => {
-                "the listing room is empty, or the map or the file room is not of the exact length"
-            }
-            10 => "the period list and the weight list are of unequal length",
-            11 => "the text is not of the form laid down",
-            12 => "the text has more than 64 sources, or a run of more than 65,536 cells",
-            13 => "the file has no whole number of blocks, none, or not as many as its run needs",
-            14 => "a block of the file has a wrong number or check",
-            15 => "a version, spare byte or filling of the file is not as laid down",
-            _ => "unknown reason",
-        };
-        write!(f, "refused {}: {}", self.0, reason)
+        write!(f, "refused {}: {}", self.number, reason(self.number))?;
+        match self.place {
+            Some(place) => write!(f, " (source {})", place),
+            None => Ok(()),
+        }
     }
 }
 
 impl std::error::Error for Refusal {}
 
-/// The answer of a call that was not refused.
-fn unless_refused<T>(refusal: u8, answer: T) -> Result<T, Refusal> {
-    match refusal {
+/// An answer's place where no source of a list is at fault.
+const NOWHERE: u64 = 0;
+
+/// The answer of a call that was not refused; of one that was, the number and the place.
+fn unless_at_fault<T>(number: u8, place: u64, answer: T) -> Result<T, Refusal> {
+    let place = Some(place).filter(|&place| place != NOWHERE);
+    match number {
         0 => Ok(answer),
-        number => Err(Refusal(number)),
+        _ => Err(Refusal { number, place }),
     }
+}
+
+/// The same of a call that is given no list.
+fn unless_refused<T>(number: u8, answer: T) -> Result<T, Refusal> {
+    unless_at_fault(number, NOWHERE, answer)
 }
 
 /// The step vectors of a period, a remainder below it and a window no wider than it.
@@ -158,7 +178,7 @@ pub fn add_to_map(
     weights: &[u32],
     map: &mut [u8],
 ) -> Result<(), Refusal> {
-    let refusal = unsafe {
+    let reply = unsafe {
         zenithgong_add_to_map(
             run.window,
             run.interval,
@@ -172,7 +192,7 @@ pub fn add_to_map(
             map.len(),
         )
     };
-    unless_refused(refusal, ())
+    unless_at_fault(reply.refusal, reply.place, ())
 }
 
 /// Writes a run and its map into a file room.
@@ -192,7 +212,7 @@ pub fn save(run: Run, map: &[u8], file: &mut [u8]) -> Result<(), Refusal> {
     unless_refused(refusal, ())
 }
 
-fn run_of(reply: RunReply) -> Result<Run, Refusal> {
+fn run_of(reply: RunReply, place: u64) -> Result<Run, Refusal> {
     let RunReply {
         refusal,
         window,
@@ -200,8 +220,9 @@ fn run_of(reply: RunReply) -> Result<Run, Refusal> {
         first,
         last,
     } = reply;
-    unless_refused(
+    unless_at_fault(
         refusal,
+        place,
         Run {
             window,
             interval,
@@ -213,13 +234,14 @@ fn run_of(reply: RunReply) -> Result<Run, Refusal> {
 
 /// The run of a file; the map is filled with its cells.
 pub fn read(file: &[u8], map: &mut [u8]) -> Result<Run, Refusal> {
-    run_of(unsafe { zenithgong_read(file.as_ptr(), file.len(), map.as_mut_ptr(), map.len()) })
+    let reply = unsafe { zenithgong_read(file.as_ptr(), file.len(), map.as_mut_ptr(), map.len()) };
+    run_of(reply, NOWHERE)
 }
 
 /// The run and the sources that a text has.
 pub fn read_text(text: &[u8]) -> Result<Input, Refusal> {
     let reply = unsafe { zenithgong_read_text(text.as_ptr(), text.len()) };
-    let run = run_of(reply.run)?;
+    let run = run_of(reply.run, reply.place)?;
     let sources = reply
         .periods
         .into_iter()

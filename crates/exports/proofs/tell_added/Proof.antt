@@ -12,11 +12,17 @@ enum-told c = search needs
 enum-known-reply : tie.Need-enum-known-reply
 enum-known-reply c = search needs
 
+number-of-requires : tie.Need-number-of-requires
+number-of-requires c κs = search needs
+
+tell-place-requires : tie.Need-tell-place-requires
+tell-place-requires c κs = search needs
+
 returns : tie.Need-returns
 returns c = sym (ap tellAdded (c .enum-told .given .1))
 
 returns-2 : tie.Need-returns-2
-returns-2 c = sym (ap tellAdded (c .before .reply .given .1))
+returns-2 c = simp (c .before .number-of .ensures, c .tell-place .ensures) (sym (ap tellAdded (c .before .before .before .reply .given .1)))
 
 pub tell-added-spec : {M : Type 1} → statement M
-tell-added-spec = tie.close (tie.spec enum-told enum-known-reply returns returns-2)
+tell-added-spec = tie.close (tie.spec enum-told enum-known-reply number-of-requires tell-place-requires returns returns-2)

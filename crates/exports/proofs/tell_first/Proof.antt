@@ -15,6 +15,9 @@ enum-told c = search needs
 enum-known-reply-2 : tie.Need-enum-known-reply-2
 enum-known-reply-2 c = search needs
 
+number-of-requires : tie.Need-number-of-requires
+number-of-requires c κs = search needs
+
 returns : tie.Need-returns
 returns c = sym (ap tellFirst (c .before .reply .given .1))
 
@@ -22,8 +25,8 @@ returns-2 : tie.Need-returns-2
 returns-2 c = sym (ap tellFirst (c .enum-told .given .1))
 
 returns-3 : tie.Need-returns-3
-returns-3 c = sym (ap tellFirst (c .before .reply2 .given .1))
+returns-3 c = simp (c .number-of .ensures) (sym (ap tellFirst (c .before .before .reply2 .given .1)))
 
 pub tell-first-spec : {M : Type 1} → statement M
 tell-first-spec =
-    tie.close (tie.spec enum-known-reply enum-told enum-known-reply-2 returns returns-2 returns-3)
+    tie.close (tie.spec enum-known-reply enum-told enum-known-reply-2 number-of-requires returns returns-2 returns-3)

@@ -15,6 +15,9 @@ enum-known-reply-2 c = search needs
 enum-known-reply-3 : tie.Need-enum-known-reply-3
 enum-known-reply-3 c = search needs
 
+number-of-requires : tie.Need-number-of-requires
+number-of-requires c κs = search needs
+
 returns : tie.Need-returns
 returns c = sym (ap tellListing (c .before .reply .given .1))
 
@@ -22,9 +25,9 @@ returns-2 : tie.Need-returns-2
 returns-2 c = sym (ap tellListing (c .before .reply2 .given .1))
 
 returns-3 : tie.Need-returns-3
-returns-3 c = sym (ap tellListing (c .before .reply3 .given .1))
+returns-3 c = simp (c .number-of .ensures) (sym (ap tellListing (c .before .before .reply3 .given .1)))
 
 pub tell-listing-spec : {M : Type 1} → statement M
 tell-listing-spec =
     tie.close
-    (tie.spec enum-known-reply enum-known-reply-2 enum-known-reply-3 returns returns-2 returns-3)
+    (tie.spec enum-known-reply enum-known-reply-2 enum-known-reply-3 number-of-requires returns returns-2 returns-3)

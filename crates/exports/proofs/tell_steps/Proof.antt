@@ -21,6 +21,9 @@ enum-known-reply-2 c = search needs
 enum-known-reply-3 : tie.Need-enum-known-reply-3
 enum-known-reply-3 c = search needs
 
+number-of-requires : tie.Need-number-of-requires
+number-of-requires c κs = search needs
+
 -- an i64 is read back from its bits
 same : (z : ℤ) → mag z < 2 ^ hbits w64 → toZ w64 (ofZ w64 z) ≡ z
 same z fits = toZ-ofZ (record { sfits = fits })
@@ -37,9 +40,9 @@ returns-2 c =
     simp (same (told .0 .0 .offset) (c .struct-told3 .given .0 .1)) (sym (ap tellSteps (told .1)))
 
 returns-3 : tie.Need-returns-3
-returns-3 c = sym (ap tellSteps (c .before .reply3 .given .1))
+returns-3 c = simp (c .number-of .ensures) (sym (ap tellSteps (c .before .before .reply3 .given .1)))
 
 pub tell-steps-spec : {M : Type 1} → statement M
 tell-steps-spec =
     tie.close
-    (tie.spec enum-known-reply enum-known-reply-2 enum-known-reply-3 returns returns-2 returns-3)
+    (tie.spec enum-known-reply enum-known-reply-2 enum-known-reply-3 number-of-requires returns returns-2 returns-3)

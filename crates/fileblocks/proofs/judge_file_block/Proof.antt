@@ -2,7 +2,6 @@
 use borrow.Author.Needs.{needs}
 use mathlib.Core.Path.{sym, ap, _∙_}
 use mathlib.Core.Bool.{not}
-use Rattle.scope.specs.Refusal.{number}
 use Rattle.scope.proofs.Judged.{broken, sound, first, then, both, refuse-verdict, grant-verdict}
 use Rattle.fileblocks.specs.FileBlock.{contents, fileBlockTests}
 use Rattle.fileblocks.proofs.judge_file_block.Statement.{statement}
@@ -24,11 +23,11 @@ zeros-from-requires : tie.Need-zeros-from-requires
 zeros-from-requires c κs = search needs
 
 returns : tie.Need-returns
-unfolding fileBlockTests number
+unfolding fileBlockTests
 returns c = refuse-verdict (first (broken (ap not (sym (c .before .before .before .is-sealed .ensures)) ∙ c .if1 .taken)))
 
 returns-2 : tie.Need-returns-2
-unfolding fileBlockTests number contents
+unfolding fileBlockTests contents
 returns-2 c =
     let e = c .before .before in
     refuse-verdict (then (sound (ap not (sym (e .before .before .is-sealed .ensures)) ∙ c .before .if1 .left)) (broken (ap not (sym (e .zeros-from .ensures)) ∙ c .if2 .taken)))

@@ -19,12 +19,12 @@ granted c = allowed (omega (arith, c .before .before .before .good .0)) (passes 
 judge-requires : tie.Need-judge-requires
 judge-requires c κs = search needs
 
-enum-known-number : tie.Need-enum-known-number
-enum-known-number c = search needs
+enum-known-reason : tie.Need-enum-known-reason
+enum-known-reason c = search needs
 
 returns : tie.Need-returns
 unfolding FirstHitPromise
-returns c = refuse-reply _ (blamed (c .before .before .before .judge .ensures) (c .before .number .given .1))
+returns c = refuse-reply _ (blamed (c .before .before .before .judge .ensures) (c .before .reason .given .1))
 
 enum-told : tie.Need-enum-told
 enum-told c = search needs
@@ -52,7 +52,7 @@ first-hit-spec =
     tie.close
     (tie.spec
     judge-requires
-    enum-known-number
+    enum-known-reason
     returns
     enum-told
     find-hit-requires

@@ -3,7 +3,7 @@ use borrow.Author.Needs.{needs}
 use borrow.Author.Tests.{le-leb, lt-leb}
 use native.Mathlib.Omega.{arith}
 use Rattle.scope.specs.Run.{cellsOf}
-use Rattle.scope.specs.Refusal.{number, runTests, sourceTests}
+use Rattle.scope.specs.Refusal.{runTests, sourceTests}
 use Rattle.scope.proofs.Judged.{Passes, broken, sound, first, then, both, fine, blamed, refuse-verdict, grant-verdict}
 use Rattle.scope.proofs.Limits.{valid-run}
 use Rattle.hits.specs.Promise.{firstHitTests}
@@ -20,12 +20,12 @@ source-passes c = fine (c .before .before .judge-source .ensures) (c .enum-told2
 judge-run-requires : tie.Need-judge-run-requires
 judge-run-requires c κs = search needs
 
-enum-known-number : tie.Need-enum-known-number
-enum-known-number c = search needs
+enum-known-reason : tie.Need-enum-known-reason
+enum-known-reason c = search needs
 
 returns : tie.Need-returns
 unfolding firstHitTests
-returns c = refuse-verdict (first (first (blamed (c .before .before .before .judge-run .ensures) (c .before .number .given .1))))
+returns c = refuse-verdict (first (first (blamed (c .before .before .before .judge-run .ensures) (c .before .reason .given .1))))
 
 enum-told : tie.Need-enum-told
 enum-told c = search needs
@@ -33,14 +33,14 @@ enum-told c = search needs
 judge-source-requires : tie.Need-judge-source-requires
 judge-source-requires c κs = search needs
 
-enum-known-number-2 : tie.Need-enum-known-number-2
-enum-known-number-2 c = search needs
+enum-known-reason-2 : tie.Need-enum-known-reason-2
+enum-known-reason-2 c = search needs
 
 returns-2 : tie.Need-returns-2
 unfolding firstHitTests
 returns-2 c =
     let j = c .before .before .before in
-    refuse-verdict (first (then (run-passes (j .before)) (blamed (j .judge-source .ensures) (c .before .number2 .given .1))))
+    refuse-verdict (first (then (run-passes (j .before)) (blamed (j .judge-source .ensures) (c .before .reason2 .given .1))))
 
 enum-told-2 : tie.Need-enum-told-2
 enum-told-2 c = search needs
@@ -49,7 +49,7 @@ cells-requires : tie.Need-cells-requires
 cells-requires c κs = valid-run (run-passes (c .before .before .before)) (omega (arith, c .before .before .before .before .before .before .good .0))
 
 returns-3 : tie.Need-returns-3
-unfolding firstHitTests number
+unfolding firstHitTests
 returns-3 c =
     let s = c .before .before .before in
     let a = s .before .before .before .before .before .before .args in
@@ -67,11 +67,11 @@ judge-spec =
     tie.close
     (tie.spec
     judge-run-requires
-    enum-known-number
+    enum-known-reason
     returns
     enum-told
     judge-source-requires
-    enum-known-number-2
+    enum-known-reason-2
     returns-2
     enum-told-2
     cells-requires

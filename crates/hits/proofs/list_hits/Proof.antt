@@ -3,7 +3,6 @@ use borrow.Author.Needs.{needs}
 use borrow.Author.Tests.{eq-eqb, ne-eqb}
 use native.Mathlib.Omega.{arith}
 use mathlib.Core.Path.{_∙_}
-use Rattle.scope.specs.Refusal.{number}
 use Rattle.scope.proofs.Judged.{Passes, broken, sound, first, then, both, fine, blamed, refuse-reply, refuse-stored, grant-reply, grant-stored}
 use Rattle.hits.specs.Promise.{firstHitTests, listingTests}
 use Rattle.hits.proofs.Lists.{Allowed, allowed}
@@ -20,20 +19,20 @@ granted c = allowed (omega (arith, c .before .before .before .before .good .0)) 
 judge-requires : tie.Need-judge-requires
 judge-requires c κs = search needs
 
-enum-known-number : tie.Need-enum-known-number
-enum-known-number c = search needs
+enum-known-reason : tie.Need-enum-known-reason
+enum-known-reason c = search needs
 
 returns : tie.Need-returns
 unfolding listingTests
 returns c =
-    let fails = first (blamed (c .before .before .before .judge .ensures) (c .before .number .given .1)) in
+    let fails = first (blamed (c .before .before .before .judge .ensures) (c .before .reason .given .1)) in
     record { says = refuse-reply _ fails; stores = refuse-stored _ _ fails }
 
 enum-told : tie.Need-enum-told
 enum-told c = search needs
 
 returns-2 : tie.Need-returns-2
-unfolding listingTests number
+unfolding listingTests
 returns-2 c =
     let fails = then (passes (c .before)) (broken (eq-eqb _ _ (c .if1 .taken))) in
     record { says = refuse-reply _ fails; stores = refuse-stored _ _ fails }
@@ -55,4 +54,4 @@ returns-3 c =
 pub list-hits-spec : {M : Type 1} → statement M
 list-hits-spec =
     tie.close
-    (tie.spec judge-requires enum-known-number returns enum-told returns-2 write-hits-requires same-length returns-3)
+    (tie.spec judge-requires enum-known-reason returns enum-told returns-2 write-hits-requires same-length returns-3)

@@ -5,7 +5,6 @@ use borrow.Author.Tests.{eq-eqb, ne-eqb}
 use native.Mathlib.Omega.{arith}
 use mathlib.Core.Path.{sym, ap, _∙_}
 use mathlib.Core.Bool.{not}
-use Rattle.scope.specs.Refusal.{number}
 use Rattle.scope.proofs.Judged.{broken, sound, first, then, both, fine, blamed}
 use Rattle.scope.proofs.Limits.{valid-run}
 use Rattle.map.specs.Promise.{mapTests}
@@ -16,18 +15,18 @@ use Rattle.map.proofs.add_to_map.Tie as tie
 judge-run-requires : tie.Need-judge-run-requires
 judge-run-requires c κs = search needs
 
-enum-known-number : tie.Need-enum-known-number
-enum-known-number c = search needs
+enum-known-reason : tie.Need-enum-known-reason
+enum-known-reason c = search needs
 
 returns : tie.Need-returns
 unfolding mapTests
-returns c = refused-call (first (first (first (blamed (c .before .before .before .judge-run .ensures) (c .before .number .given .1)))))
+returns c = refused-call (first (first (first (blamed (c .before .before .before .judge-run .ensures) (c .before .reason .given .1)))))
 
 enum-told : tie.Need-enum-told
 enum-told c = search needs
 
 returns-2 : tie.Need-returns-2
-unfolding mapTests number
+unfolding mapTests
 returns-2 c =
     let run = fine (c .before .before .before .judge-run .ensures) (c .before .enum-told .given .1) in
     refused-call (first (first (then run (broken (ap not (ne-eqb _ _ (c .if1 .taken)))))))
@@ -35,14 +34,14 @@ returns-2 c =
 judge-entries-requires : tie.Need-judge-entries-requires
 judge-entries-requires c κs = search needs
 
-enum-known-number-2 : tie.Need-enum-known-number-2
-enum-known-number-2 c = search needs
+enum-known-reason-2 : tie.Need-enum-known-reason-2
+enum-known-reason-2 c = search needs
 
 returns-3 : tie.Need-returns-3
 unfolding mapTests
 returns-3 c =
     let run = fine (c .before .before .before .before .before .before .before .judge-run .ensures) (c .before .before .before .before .before .enum-told .given .1) in
-    refused-call (first (then (both run (sound (ap not (eq-eqb _ _ (c .before .before .before .before .if1 .left))))) (blamed (c .before .before .before .judge-entries .ensures) (c .before .number2 .given .1))))
+    refused-call (first (then (both run (sound (ap not (eq-eqb _ _ (c .before .before .before .before .if1 .left))))) (blamed (c .before .before .before .judge-entries .ensures) (c .before .reason2 .given .1))))
 
 enum-told-2 : tie.Need-enum-told-2
 enum-told-2 c = search needs
@@ -53,7 +52,7 @@ cells-requires c κs =
     valid-run run (omega (arith, c .before .before .before .before .before .before .before .before .before .before .good .0))
 
 returns-4 : tie.Need-returns-4
-unfolding mapTests number
+unfolding mapTests
 returns-4 c =
     let run = fine (c .before .before .before .before .before .before .before .before .judge-run .ensures) (c .before .before .before .before .before .before .enum-told .given .1) in
     let entries = fine (c .before .before .before .before .judge-entries .ensures) (c .before .before .enum-told2 .given .1) in
@@ -81,12 +80,12 @@ add-to-map-spec =
     tie.close
     (tie.spec
     judge-run-requires
-    enum-known-number
+    enum-known-reason
     returns
     enum-told
     returns-2
     judge-entries-requires
-    enum-known-number-2
+    enum-known-reason-2
     returns-3
     enum-told-2
     cells-requires

@@ -63,13 +63,13 @@ judge-file-block-requires c κs =
     let long : fileBlockBytes * (c .before .before .loop .k + 1) + fileBlockBytes ≤ length (c .before .before .before .before .args .file .now) = omega arith in
     simp (length-take, length-drop) (omega arith)
 
-enum-known-number : tie.Need-enum-known-number Inv-loop μ-loop
-enum-known-number c = search needs
+enum-known-reason : tie.Need-enum-known-reason Inv-loop μ-loop
+enum-known-reason c = search needs
 
 returns : tie.Need-returns Inv-loop μ-loop
 returns c =
     let turn = c .before .before .before .before .before in
-    refuse-verdict (judged-fails (turn .before .loop .inv) (turn .loop-test .taken) (record { is = c .before .before .before .judge-file-block .ensures }) (c .before .number .given .1))
+    refuse-verdict (judged-fails (turn .before .loop .inv) (turn .loop-test .taken) (record { is = c .before .before .before .judge-file-block .ensures }) (c .before .reason .given .1))
 
 enum-told : tie.Need-enum-told Inv-loop μ-loop
 enum-told c = search needs
@@ -107,7 +107,7 @@ judge-cells-spec =
     part-judge-file-block-start
     part-judge-file-block-end
     judge-file-block-requires
-    enum-known-number
+    enum-known-reason
     returns
     enum-told
     add-k

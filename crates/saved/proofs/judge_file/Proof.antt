@@ -9,7 +9,8 @@ use mathlib.Core.List.{List}
 use lib.Dec.{eqb}
 use lib.ListN.{length}
 use Rattle.scope.specs.Run.{ValidRun}
-use Rattle.scope.specs.Refusal.{Tests, _when_, _andThen_, FileBlocks, number, complaint, runTests}
+use Rattle.scope.specs.Refusal.{Tests, _when_, _andThen_, complaint, runTests}
+use Rattle.scope.specs.declared.Reason.the-variants.{FileBlocks}
 use Rattle.scope.specs.Reply.{answered}
 use Rattle.scope.specs.Inner.{verdict}
 use Rattle.scope.proofs.Judged.{Passes, broken, sound, first, then, both, fine, blamed, refuse-reply, grant-reply}
@@ -66,11 +67,11 @@ cells-judged : (c : tie.After-judge-cells) → let file = c .before .before .bef
 cells-judged c = rw (size-told (c .before .before .before)) at (c .judge-cells .ensures)
 
 returns : tie.Need-returns
-unfolding fileTests number
+unfolding fileTests
 returns c = refuse-reply _ (first (first (first (first (first (broken (differs refl refl (c .if1 .taken))))))))
 
 returns-2 : tie.Need-returns-2
-unfolding fileTests number
+unfolding fileTests
 returns-2 c = refuse-reply _ (first (first (first (first (then (whole (c .before)) (broken (eq-eqb _ _ (c .if2 .taken))))))))
 
 sub-judge-heading : tie.Need-sub-judge-heading
@@ -85,12 +86,12 @@ part-judge-heading-end c = search needs
 judge-heading-requires : tie.Need-judge-heading-requires
 judge-heading-requires c κs = search needs
 
-enum-known-number : tie.Need-enum-known-number
-enum-known-number c = search needs
+enum-known-reason : tie.Need-enum-known-reason
+enum-known-reason c = search needs
 
 returns-3 : tie.Need-returns-3
 unfolding fileTests fileBlockAt
-returns-3 c = refuse-reply _ (first (first (first (then (some (c .before .before .before .before .before)) (blamed (c .before .before .before .judge-heading .ensures) (c .before .number .given .1))))))
+returns-3 c = refuse-reply _ (first (first (first (then (some (c .before .before .before .before .before)) (blamed (c .before .before .before .judge-heading .ensures) (c .before .reason .given .1))))))
 
 enum-told : tie.Need-enum-told
 enum-told c = search needs
@@ -101,12 +102,12 @@ run-of-requires c κs = search needs
 judge-run-requires : tie.Need-judge-run-requires
 judge-run-requires c κs = search needs
 
-enum-known-number-2 : tie.Need-enum-known-number-2
-enum-known-number-2 c = search needs
+enum-known-reason-2 : tie.Need-enum-known-reason-2
+enum-known-reason-2 c = search needs
 
 returns-4 : tie.Need-returns-4
 unfolding fileTests
-returns-4 c = refuse-reply _ (first (first (then (headed (c .before .before .before .before .before)) (blamed (run-judged (c .before .before .before)) (c .before .number2 .given .1)))))
+returns-4 c = refuse-reply _ (first (first (then (headed (c .before .before .before .before .before)) (blamed (run-judged (c .before .before .before)) (c .before .reason2 .given .1)))))
 
 enum-told-2 : tie.Need-enum-told-2
 enum-told-2 c = search needs
@@ -118,7 +119,7 @@ file-length-requires : tie.Need-file-length-requires
 file-length-requires c κs = let few = cells-few (valid (c .before)) in let e = c .bytes-for .ensures ∙ cell-bytes _ in omega arith
 
 returns-5 : tie.Need-returns-5
-unfolding fileTests number
+unfolding fileTests
 returns-5 c = refuse-reply _ (first (then (limited (c .before .before .before)) (broken (differs refl (length-told (c .before)) (λ e. c .if3 .taken (sym e))))))
 
 judge-cells-requires : tie.Need-judge-cells-requires
@@ -127,12 +128,12 @@ judge-cells-requires c κs =
     let e = c .before .before .bytes-for .ensures ∙ cell-bytes _ in
     (omega arith, sym (c .if3 .left) ∙ c .before .file-length .ensures)
 
-enum-known-number-3 : tie.Need-enum-known-number-3
-enum-known-number-3 c = search needs
+enum-known-reason-3 : tie.Need-enum-known-reason-3
+enum-known-reason-3 c = search needs
 
 returns-6 : tie.Need-returns-6
 unfolding fileTests
-returns-6 c = refuse-reply _ (then (counted (c .before .before .before .before)) (blamed (cells-judged (c .before .before .before)) (c .before .number3 .given .1)))
+returns-6 c = refuse-reply _ (then (counted (c .before .before .before .before)) (blamed (cells-judged (c .before .before .before)) (c .before .reason3 .given .1)))
 
 enum-told-3 : tie.Need-enum-told-3
 enum-told-3 c = search needs
@@ -151,19 +152,19 @@ judge-file-spec =
     part-judge-heading-start
     part-judge-heading-end
     judge-heading-requires
-    enum-known-number
+    enum-known-reason
     returns-3
     enum-told
     run-of-requires
     judge-run-requires
-    enum-known-number-2
+    enum-known-reason-2
     returns-4
     enum-told-2
     bytes-for-requires
     file-length-requires
     returns-5
     judge-cells-requires
-    enum-known-number-3
+    enum-known-reason-3
     returns-6
     enum-told-3
     returns-7)

@@ -4,7 +4,8 @@ use mathlib.Core.Path.{refl, sym, ap, _∙_}
 use mathlib.Core.Bool.{not}
 use lib.Dec.{eqb}
 use lib.ListN.{getD}
-use Rattle.scope.specs.Refusal.{_when_, _andThen_, Layout, number}
+use Rattle.scope.specs.Refusal.{_when_, _andThen_}
+use Rattle.scope.specs.declared.Reason.the-variants.{Layout}
 use Rattle.scope.proofs.Judged.{Passes, broken, sound, first, then, both, fine, blamed, refuse-verdict, grant-verdict}
 use Rattle.fileblocks.specs.FileBlock.{fileBlockTests}
 use Rattle.saved.specs.File.{headingTests}
@@ -22,12 +23,12 @@ versioned c = both (as-file-block (c .before .before)) (sound (agrees refl refl 
 judge-file-block-requires : tie.Need-judge-file-block-requires
 judge-file-block-requires c κs = search needs
 
-enum-known-number : tie.Need-enum-known-number
-enum-known-number c = search needs
+enum-known-reason : tie.Need-enum-known-reason
+enum-known-reason c = search needs
 
 returns : tie.Need-returns
 unfolding headingTests
-returns c = refuse-verdict (first (first (blamed (c .before .before .before .judge-file-block .ensures) (c .before .number .given .1))))
+returns c = refuse-verdict (first (first (blamed (c .before .before .before .judge-file-block .ensures) (c .before .reason .given .1))))
 
 enum-told : tie.Need-enum-told
 enum-told c = search needs
@@ -36,7 +37,7 @@ shared-slice-read-if1 : tie.Need-shared-slice-read-if1
 shared-slice-read-if1 c = search needs
 
 returns-2 : tie.Need-returns-2
-unfolding headingTests number
+unfolding headingTests
 returns-2 c = refuse-verdict (first (then (as-file-block (c .before .before)) (broken (differs refl refl (c .if1 .taken)))))
 
 sub-zeros-from : tie.Need-sub-zeros-from
@@ -52,7 +53,7 @@ zeros-from-requires : tie.Need-zeros-from-requires
 zeros-from-requires c κs = search needs
 
 returns-3 : tie.Need-returns-3
-unfolding headingTests number
+unfolding headingTests
 returns-3 c = refuse-verdict (then (versioned (c .before .before .before)) (broken (ap not (sym (c .before .zeros-from .ensures)) ∙ c .if2 .taken)))
 
 returns-4 : tie.Need-returns-4
@@ -64,7 +65,7 @@ judge-heading-spec =
     tie.close
     (tie.spec
     judge-file-block-requires
-    enum-known-number
+    enum-known-reason
     returns
     enum-told
     shared-slice-read-if1

@@ -4,7 +4,6 @@ use native.Mathlib.Omega.{arith}
 use mathlib.Core.Path.{_≡_, refl, sym, ap, _∙_}
 use lib.ListN.{take}
 use Rattle.scope.specs.Run.{ValidRun, cellsOf}
-use Rattle.scope.specs.Refusal.{number}
 use Rattle.scope.proofs.Judged.{Passes, broken, sound, first, then, both, said-answered, said-refused}
 use Rattle.scope.proofs.Limits.{valid-run, cells-few}
 use Rattle.saved.specs.File.{fileBlocksFor, fileLength, bytesFor, runOf, bytesIn, mapOf, fileTests, readingTests}
@@ -28,8 +27,8 @@ cells-told c = c .cells .ensures ∙ ap cellsOf (told (c .before) .1)
 judge-file-requires : tie.Need-judge-file-requires
 judge-file-requires c κs = search needs
 
-enum-known-number : tie.Need-enum-known-number
-enum-known-number c = search needs
+enum-known-reason : tie.Need-enum-known-reason
+enum-known-reason c = search needs
 
 enum-known-run : tie.Need-enum-known-run
 enum-known-run c = search needs
@@ -38,7 +37,7 @@ cells-requires : tie.Need-cells-requires
 cells-requires c κs = valid c
 
 returns : tie.Need-returns
-unfolding readingTests number
+unfolding readingTests
 returns c = refuse-reading (then (told (c .before .before) .0) (broken (differs refl (cells-told (c .before)) (c .if1 .taken))))
 
 load-requires : tie.Need-load-requires
@@ -52,7 +51,7 @@ load-requires c κs =
 
 returns-2 : tie.Need-returns-2
 unfolding readingTests
-returns-2 c = refuse-reading (first (said-refused _ _ (ap saysReading (sym (c .before .number .given .1)) ∙ c .before .before .before .judge-file .ensures)))
+returns-2 c = refuse-reading (first (said-refused _ _ (ap saysReading (sym (c .before .reason .given .1)) ∙ c .before .before .before .judge-file .ensures)))
 
 same-length : tie.Need-same-length
 same-length c = search needs
@@ -72,7 +71,7 @@ read-spec =
     tie.close
     (tie.spec
     judge-file-requires
-    enum-known-number
+    enum-known-reason
     enum-known-run
     cells-requires
     returns

@@ -9,7 +9,7 @@ use lib.ListN.{length}
 use borrow.Rule.Slice.PartMut.{putMid, midOf, mid-len}
 use Rattle.scope.specs.declared.Run.{Run}
 use Rattle.scope.specs.Run.{ValidRun, cellsOf}
-use Rattle.scope.specs.Refusal.{number, runTests}
+use Rattle.scope.specs.Refusal.{runTests}
 use Rattle.scope.proofs.Judged.{Passes, broken, sound, first, then, both, fine, blamed}
 use Rattle.scope.proofs.Limits.{valid-run, cells-few}
 use Rattle.fileblocks.specs.FileBlock.{fileBlockBytes, fileBlockOf}
@@ -67,12 +67,12 @@ module _ {run : Run} {map file part : List ℕ} (s : Admitted run map file) (hea
 judge-run-requires : tie.Need-judge-run-requires
 judge-run-requires c κs = search needs
 
-enum-known-number : tie.Need-enum-known-number
-enum-known-number c = search needs
+enum-known-reason : tie.Need-enum-known-reason
+enum-known-reason c = search needs
 
 returns : tie.Need-returns
 unfolding savingTests
-returns c = refuse-saving (first (first (blamed (c .before .before .before .judge-run .ensures) (c .before .number .given .1))))
+returns c = refuse-saving (first (first (blamed (c .before .before .before .judge-run .ensures) (c .before .reason .given .1))))
 
 enum-told : tie.Need-enum-told
 enum-told c = search needs
@@ -81,7 +81,7 @@ cells-requires : tie.Need-cells-requires
 cells-requires c κs = valid c
 
 returns-2 : tie.Need-returns-2
-unfolding savingTests number
+unfolding savingTests
 returns-2 c = refuse-saving (first (then (passes (c .before .before)) (broken (differs refl (c .before .cells .ensures) (c .if1 .taken)))))
 
 bytes-for-requires : tie.Need-bytes-for-requires
@@ -91,7 +91,7 @@ file-length-requires : tie.Need-file-length-requires
 file-length-requires c κs = let few = cells-few (valid (c .before .before .before)) in let e = c .bytes-for .ensures ∙ cell-bytes _ in omega arith
 
 returns-3 : tie.Need-returns-3
-unfolding savingTests number
+unfolding savingTests
 returns-3 c =
     let told = c .before .before .before in
     refuse-saving (then (both (passes (told .before .before)) (sound (agrees refl (told .before .cells .ensures) (told .if1 .left)))) (broken (differs refl (c .before .file-length .ensures ∙ ap fileLength (c .before .before .bytes-for .ensures)) (c .if2 .taken))))
@@ -142,7 +142,7 @@ save-spec =
     tie.close
     (tie.spec
     judge-run-requires
-    enum-known-number
+    enum-known-reason
     returns
     enum-told
     cells-requires

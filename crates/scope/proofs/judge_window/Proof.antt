@@ -1,20 +1,20 @@
 -- `scope::judge_window` meets its contract: each return is the first test that fails, or none. Assumes nothing.
 use borrow.Author.Tests.{eq-eqb, ne-eqb, lt-ltb, le-ltb}
-use Rattle.scope.specs.Refusal.{number, windowTests}
+use Rattle.scope.specs.Refusal.{windowTests}
 use Rattle.scope.proofs.Judged.{broken, sound, first, then, both, refuse-verdict, grant-verdict}
 use Rattle.scope.proofs.judge_window.Statement.{statement}
 use Rattle.scope.proofs.judge_window.Tie as tie
 
 returns : tie.Need-returns
-unfolding windowTests number
+unfolding windowTests
 returns c = refuse-verdict (first (first (broken (eq-eqb _ _ (c .if1 .taken)))))
 
 returns-2 : tie.Need-returns-2
-unfolding windowTests number
+unfolding windowTests
 returns-2 c = refuse-verdict (first (then (sound (ne-eqb _ _ (c .before .if1 .left))) (broken (lt-ltb _ _ (c .if2 .taken)))))
 
 returns-3 : tie.Need-returns-3
-unfolding windowTests number
+unfolding windowTests
 returns-3 c = refuse-verdict (then (both (sound (ne-eqb _ _ (c .before .before .if1 .left))) (sound (le-ltb _ _ (c .before .if2 .left)))) (broken (lt-ltb _ _ (c .if3 .taken))))
 
 returns-4 : tie.Need-returns-4

@@ -7,14 +7,14 @@ use mathlib.Core.Path.{_≡_, refl, sym, _∙_}
 use mathlib.Core.List.{List}
 use Prim.Native.Nat.{ℕ, suc, _≤_, _<_, _-_, _+_}
 use lib.ListN.{length, getD, drop, drop-of-length-le}
-use Rattle.scope.specs.Refusal.{complaint}
+use Rattle.scope.specs.Refusal.{ofSource, complaint}
 use Rattle.scope.specs.Inner.{verdict, firstOf}
 use Rattle.scope.specs.declared.Verdict.{Verdict}
 use Rattle.scope.specs.declared.Verdict.the-variants.{Fine}
 use Rattle.scope.specs.Run.{ceiling}
 use Rattle.sources.specs.Entry.{entriesOf, entryTests, listTests}
 use Rattle.sources.proofs.Entries.{entry, entries-from}
-use Rattle.scope.proofs.Verdicts.{verdict-then, verdict-source, first-of-three, first-alone}
+use Rattle.scope.proofs.Verdicts.{verdict-then, first-of-three, first-alone}
 use Rattle.sources.proofs.judge_entries.Statement.{statement}
 use Rattle.sources.proofs.judge_entries.Tie as tie
 
@@ -32,18 +32,18 @@ unfolding firstOf
 starts e = record { equal = e; within = omega arith; whole = refl }
 
 module _ {periods weights : List ℕ} {said : Verdict} {k : ℕ} (from : From periods weights said k) where
-  rest-is : k < length periods → rest periods weights k ≡ firstOf (verdict (complaint (entryTests ceiling (entry (getD periods k 0) (getD weights k 0))))) (rest periods weights (suc k))
+  rest-is : k < length periods → rest periods weights k ≡ firstOf (verdict (complaint (ofSource (suc k) (entryTests ceiling (entry (getD periods k 0) (getD weights k 0)))))) (rest periods weights (suc k))
   unfolding listTests
   rest-is h =
       let l = from .equal in
-      rw (entries-from periods weights k h (omega arith), verdict-then, verdict-source)
+      rw (entries-from periods weights k h (omega arith), verdict-then)
 
-  steps : {next said′ : Verdict} → k < length periods → next ≡ verdict (complaint (entryTests ceiling (entry (getD periods k 0) (getD weights k 0)))) → said′ ≡ firstOf said next → From periods weights said′ (k + 1)
+  steps : {next said′ : Verdict} → k < length periods → next ≡ verdict (complaint (ofSource (k + 1) (entryTests ceiling (entry (getD periods k 0) (getD weights k 0))))) → said′ ≡ firstOf said next → From periods weights said′ (k + 1)
   steps h e f =
       record {
         equal = from .equal;
         within = omega arith;
-        whole = rw (add-one, f, e) (from .whole ∙ rw (rest-is h) (first-of-three said _ _));
+        whole = rw (add-one, f, rw (add-one k) at e) (from .whole ∙ rw (rest-is h) (first-of-three said _ _));
       }
 
   ends : length periods ≤ k → said ≡ rest periods weights 0
@@ -58,6 +58,9 @@ abbrev μ-loop : tie.MeasureT-loop
 
 loop-holds : tie.Need-loop-holds Inv-loop μ-loop
 loop-holds c = starts (c .before .before .pre)
+
+add-place : tie.Need-add-place Inv-loop μ-loop
+add-place c = search needs
 
 mul-judge-entry : tie.Need-mul-judge-entry Inv-loop μ-loop
 mul-judge-entry c = search needs
@@ -98,6 +101,7 @@ judge-entries-spec =
     Inv-loop
     μ-loop
     loop-holds
+    add-place
     mul-judge-entry
     shared-slice-read-judge-entry
     mul-judge-entry-2

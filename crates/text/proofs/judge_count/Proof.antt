@@ -2,13 +2,11 @@
 use borrow.Author.Tests.{lt-ltb, le-ltb}
 use native.Mathlib.Omega.{arith}
 use Rattle.text.specs.Promise.{mostSources}
-use Rattle.scope.specs.Refusal.{number}
 use Rattle.scope.proofs.Judged.{broken, sound, refuse-verdict, grant-verdict}
 use Rattle.text.proofs.judge_count.Statement.{statement}
 use Rattle.text.proofs.judge_count.Tie as tie
 
 returns : tie.Need-returns
-unfolding number
 returns c = refuse-verdict (broken (lt-ltb mostSources (c .before .args .count) (omega arith)))
 
 returns-2 : tie.Need-returns-2

@@ -2,7 +2,6 @@
 use mathlib.Core.Path.{refl, _∙_, subst}
 use native.Mathlib.Omega.{arith}
 use borrow.Author.Needs.{needs}
-use Rattle.scope.specs.Refusal.{number}
 use Rattle.words.specs.Inner.{LineAt}
 use Rattle.words.proofs.Lines.{hand-on}
 use Rattle.text.specs.Inner.{LinesAt}
@@ -11,7 +10,6 @@ use Rattle.text.proofs.read_lines.Statement.{statement}
 use Rattle.text.proofs.read_lines.Tie as tie
 
 returns : tie.Need-returns
-unfolding number
 returns c = (refl, too-long (omega arith))
 
 slice-aggregate-read-line : tie.Need-slice-aggregate-read-line
@@ -30,7 +28,6 @@ same-length : tie.Need-same-length
 same-length c = c .before .before .before .before .read-line .kept .1 .1 .1 .0
 
 returns-2 : tie.Need-returns-2
-unfolding number
 returns-2 c =
     let read = c .before .before .before .before in
     hand-on (c .enum-told .given .1) (LineAt _ _ _ _ _ _) (LinesAt _ _ _ _ _ _ _) (read .read-line .ensures)

@@ -1,7 +1,6 @@
 -- `text::read_source` meets its contract: a line with two numbers is a source and its weight. Assumes nothing.
 use mathlib.Core.Path.{subst}
 use borrow.Author.Needs.{needs}
-use Rattle.scope.specs.Refusal.{number}
 use Rattle.words.specs.Inner.{LineAt}
 use Rattle.words.proofs.Lines.{hand-on}
 use Rattle.text.specs.Inner.{SourceAt}
@@ -25,7 +24,6 @@ enum-told : tie.Need-enum-told
 enum-told c = search needs
 
 returns : tie.Need-returns
-unfolding number
 returns c =
     hand-on (c .enum-told .given .1) (LineAt _ _ _ _ _ _) (SourceAt _ _ _ _ _ _ _) (c .before .before .before .read-line .ensures)
     (λ r. r)

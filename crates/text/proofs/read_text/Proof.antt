@@ -9,7 +9,8 @@ use lib.ListN.{length, take}
 use lib.Seq.{length-take-le}
 use Rattle.rooms.specs.Lists.{zeros}
 use Rattle.scope.specs.Run.{ceiling, cellsOf}
-use Rattle.scope.specs.Refusal.{_when_, _andThen_, TooMany, complaint, number, runTests}
+use Rattle.scope.specs.Refusal.{_when_, _andThen_, complaint, runTests}
+use Rattle.scope.specs.declared.Reason.the-variants.{TooMany}
 use Rattle.scope.specs.Inner.{verdict}
 use Rattle.scope.proofs.Judged.{Passes, Fails, broken, sound, first, then, both, fine, blamed}
 use Rattle.scope.proofs.Limits.{passes-when, passes-first, passes-then, valid-run}
@@ -100,8 +101,8 @@ slice-aggregate-read-lines-3 c = search needs
 read-lines-requires : tie.Need-read-lines-requires
 read-lines-requires c κs = search needs
 
-enum-known-number : tie.Need-enum-known-number
-enum-known-number c = search needs
+enum-known-reason : tie.Need-enum-known-reason
+enum-known-reason c = search needs
 
 refuse-requires : tie.Need-refuse-requires
 refuse-requires c κs = search needs
@@ -109,7 +110,7 @@ refuse-requires c κs = search needs
 returns : tie.Need-returns
 returns c =
     let told = c .before .before in
-    let r = subst (LinesAt _ _ _ _ _ _ _) (told .number .given .1) (told .before .before .before .before .before .read-lines .ensures) in
+    let r = subst (LinesAt _ _ _ _ _ _ _) (told .reason .given .1) (told .before .before .before .before .before .read-lines .ensures) in
     refuses-form (r .1) (r .0) (c .refuse .ensures)
 
 enum-told : tie.Need-enum-told
@@ -127,8 +128,8 @@ judge-count-requires c κs = search needs
 first-of-requires : tie.Need-first-of-requires
 first-of-requires c κs = search needs
 
-enum-known-number-2 : tie.Need-enum-known-number-2
-enum-known-number-2 c = search needs
+enum-known-reason-2 : tie.Need-enum-known-reason-2
+enum-known-reason-2 c = search needs
 
 refuse-requires-2 : tie.Need-refuse-requires-2
 refuse-requires-2 c κs = search needs
@@ -136,7 +137,7 @@ refuse-requires-2 c κs = search needs
 returns-2 : tie.Need-returns-2
 unfolding textTests
 returns-2 c =
-    refuses (formed (c .before .before .before .before .before .before .before)) (first (first (blamed (judged (c .before .before .before .before)) (c .before .before .number2 .given .1)))) (c .refuse2 .ensures)
+    refuses (formed (c .before .before .before .before .before .before .before)) (first (first (blamed (judged (c .before .before .before .before)) (c .before .before .reason2 .given .1)))) (c .refuse2 .ensures)
 
 enum-told-2 : tie.Need-enum-told-2
 enum-told-2 c = search needs
@@ -148,7 +149,7 @@ refuse-requires-3 : tie.Need-refuse-requires-3
 refuse-requires-3 c κs = search needs
 
 returns-3 : tie.Need-returns-3
-unfolding textTests number
+unfolding textTests
 returns-3 c =
     let run = c .before .before .before .before .before .before .before .before in
     refuses (formed run)
@@ -170,8 +171,8 @@ slice-aggregate-judge-entries-2 c = sym (parts-long (c .before .before) .1)
 judge-entries-requires : tie.Need-judge-entries-requires
 judge-entries-requires c κs = parts-long (c .before .before) .0 ∙ sym (parts-long (c .before .before) .1)
 
-enum-known-number-3 : tie.Need-enum-known-number-3
-enum-known-number-3 c = search needs
+enum-known-reason-3 : tie.Need-enum-known-reason-3
+enum-known-reason-3 c = search needs
 
 refuse-requires-4 : tie.Need-refuse-requires-4
 refuse-requires-4 c κs = search needs
@@ -183,7 +184,7 @@ returns-4 c =
     let cells = entries .before .before .before in
     refuses (formed (cells .before .before .before .before .before .before .before))
     (then (cells-passes cells)
-    (subst (λ es. Fails (listTests ceiling 1 es) (c .before .before .number3 .given .0 .0)) (entries-judged cells) (blamed (entries .judge-entries .ensures) (c .before .before .number3 .given .1))))
+    (subst (λ es. Fails (listTests ceiling 1 es) (c .before .before .reason3 .given .0 .0) (c .before .before .reason3 .given .0 .1 .0)) (entries-judged cells) (blamed (entries .judge-entries .ensures) (c .before .before .reason3 .given .1))))
     (c .refuse4 .ensures)
 
 enum-told-3 : tie.Need-enum-told-3
@@ -207,7 +208,7 @@ read-text-spec =
     slice-aggregate-read-lines-2
     slice-aggregate-read-lines-3
     read-lines-requires
-    enum-known-number
+    enum-known-reason
     refuse-requires
     returns
     enum-told
@@ -215,7 +216,7 @@ read-text-spec =
     judge-run-requires
     judge-count-requires
     first-of-requires
-    enum-known-number-2
+    enum-known-reason-2
     refuse-requires-2
     returns-2
     enum-told-2
@@ -227,7 +228,7 @@ read-text-spec =
     array-share-prefix-weights
     slice-aggregate-judge-entries-2
     judge-entries-requires
-    enum-known-number-3
+    enum-known-reason-3
     refuse-requires-4
     returns-4
     enum-told-3

@@ -1,12 +1,14 @@
 -- `vectors::step_vectors` meets its contract: the first test that fails is the refusal; past them `find_basis` answers.
 -- Assumes nothing.
 use Prim.Native.Nat.{ℕ}
-use mathlib.Core.Path.{sym, ap, subst}
+use mathlib.Core.Path.{subst}
 use mathlib.Core.Option.{none}
 use borrow.Author.Needs.{needs}
 use borrow.Author.Tests.{le-leb, lt-leb, lt-ltb, le-ltb}
 use native.Mathlib.Omega.{arith}
-use Rattle.scope.specs.Refusal.{Tests, _andThen_, complaint, number, windowTests, periodTests, sourceTests}
+use Rattle.scope.specs.Refusal.{number, Tests, _andThen_, complaint, windowTests, periodTests, sourceTests}
+use Rattle.scope.specs.declared.Reason.{Reason}
+use Rattle.scope.specs.declared.Place.{Place}
 use Rattle.scope.specs.Reply.{refused, answered}
 use Rattle.scope.proofs.Judged.{Fails, Passes, broken, sound, first, then, both, fine, blamed}
 use Rattle.scope.proofs.Limits.{passes-first, passes-then, valid-window, valid-source}
@@ -16,8 +18,8 @@ use Rattle.vectors.specs.Inner.{Spans}
 use Rattle.vectors.proofs.step_vectors.Statement.{statement}
 use Rattle.vectors.proofs.step_vectors.Tie as tie
 
-refuse : {tests : Tests} {n : ℕ} (p r I : ℕ) → Fails tests n → Admits (complaint tests) p r I (refused n)
-refuse p r I f = rw (f .is) (ap refused (sym (f .numbered)))
+refuse : {tests : Tests} {reason : Reason} {place : Place} (p r I : ℕ) → Fails tests reason place → Admits (complaint tests) p r I (refused (number reason) place)
+refuse p r I f = rw (f .is)
 
 grant : {tests : Tests} (p r I : ℕ) (v : Values) → Passes tests → Admits none p r I (answered v) → Admits (complaint tests) p r I (answered v)
 grant p r I v q h = rw (q .is) h
@@ -25,12 +27,12 @@ grant p r I v q h = rw (q .is) h
 judge-window-requires : tie.Need-judge-window-requires
 judge-window-requires c κs = search needs
 
-enum-known-number : tie.Need-enum-known-number
-enum-known-number c = search needs
+enum-known-reason : tie.Need-enum-known-reason
+enum-known-reason c = search needs
 
 returns : tie.Need-returns
 unfolding VectorsPromise vectorsTests
-returns c = refuse _ _ _ (first (first (first (blamed (c .before .before .before .judge-window .ensures) (c .before .number .given .1)))))
+returns c = refuse _ _ _ (first (first (first (blamed (c .before .before .before .judge-window .ensures) (c .before .reason .given .1)))))
 
 enum-told : tie.Need-enum-told
 enum-told c = search needs
@@ -38,15 +40,15 @@ enum-told c = search needs
 judge-period-requires : tie.Need-judge-period-requires
 judge-period-requires c κs = search needs
 
-enum-known-number-2 : tie.Need-enum-known-number-2
-enum-known-number-2 c = search needs
+enum-known-reason-2 : tie.Need-enum-known-reason-2
+enum-known-reason-2 c = search needs
 
 returns-2 : tie.Need-returns-2
 unfolding VectorsPromise vectorsTests
 returns-2 c =
     let period = c .before .before .before in
     let window = fine (period .before .before .before .judge-window .ensures) (period .before .enum-told .given .1) in
-    refuse _ _ _ (first (first (then window (blamed (period .judge-period .ensures) (c .before .number2 .given .1)))))
+    refuse _ _ _ (first (first (then window (blamed (period .judge-period .ensures) (c .before .reason2 .given .1)))))
 
 enum-told-2 : tie.Need-enum-told-2
 enum-told-2 c = search needs
@@ -60,11 +62,11 @@ pass c =
     (fine (period .judge-period .ensures) (c .enum-told2 .given .1))
 
 returns-3 : tie.Need-returns-3
-unfolding VectorsPromise vectorsTests number
+unfolding VectorsPromise vectorsTests
 returns-3 c = refuse _ _ _ (first (then (pass (c .before)) (broken (le-leb _ _ (c .if1 .taken)))))
 
 returns-4 : tie.Need-returns-4
-unfolding VectorsPromise vectorsTests number
+unfolding VectorsPromise vectorsTests
 returns-4 c =
     refuse _ _ _ (then (both (pass (c .before .before)) (sound (lt-leb _ _ (c .before .if1 .left)))) (broken (lt-ltb _ _ (c .if2 .taken))))
 
@@ -104,11 +106,11 @@ step-vectors-spec =
     tie.close
     (tie.spec
     judge-window-requires
-    enum-known-number
+    enum-known-reason
     returns
     enum-told
     judge-period-requires
-    enum-known-number-2
+    enum-known-reason-2
     returns-2
     enum-told-2
     returns-3

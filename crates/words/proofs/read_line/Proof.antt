@@ -12,10 +12,10 @@ use Rattle.words.proofs.read_line.Statement.{statement}
 use Rattle.words.proofs.read_line.Tie as tie
 
 abbrev Inv-loop : tie.InvT-loop
-Inv-loop text at word room₀ refusal start next₀ k₀ t11 room next k = Passing text at word room₀ room k next
+Inv-loop text at word room₀ reason start next₀ k₀ t11 room next k = Passing text at word room₀ room k next
 
 abbrev μ-loop : tie.MeasureT-loop
-μ-loop text at word room₀ refusal start next₀ k₀ t11 room next k = length room₀ - k
+μ-loop text at word room₀ reason start next₀ k₀ t11 room next k = length room₀ - k
 
 read-word-requires : tie.Need-read-word-requires Inv-loop μ-loop
 read-word-requires c κs = search needs

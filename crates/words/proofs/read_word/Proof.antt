@@ -9,10 +9,10 @@ use Rattle.words.proofs.read_word.Statement.{statement}
 use Rattle.words.proofs.read_word.Tie as tie
 
 abbrev Inv-loop : tie.InvT-loop
-Inv-loop text at word refusal next₀ k₀ next k = Begun text at word k next
+Inv-loop text at word reason next₀ k₀ next k = Begun text at word k next
 
 abbrev μ-loop : tie.MeasureT-loop
-μ-loop text at word refusal next₀ k₀ next k = length word - k
+μ-loop text at word reason next₀ k₀ next k = length word - k
 
 loop-holds : tie.Need-loop-holds Inv-loop μ-loop
 loop-holds c = begun-none _ _ _

@@ -1,7 +1,19 @@
-//! The bench figures of document 01, and the words of its refusals.
+//! The bench figures of document 01, examples of request E1's refusals, and the words of all refusals.
 use crate::library::*;
-use crate::support::trials;
-use zenithgong::{Listing, Refusal, Run, Steps, Vector};
+use crate::support::{trials, wide};
+use crate::{files, texts};
+use zenithgong::{Input, Listing, Refusal, Run, Steps, Vector};
+
+/// A refusal that concerns no source of a list.
+fn alone<T>(number: u8) -> Result<T, Refusal> {
+    let place = None;
+    Err(Refusal { number, place })
+}
+
+fn of_source<T>(number: u8, place: u64) -> Result<T, Refusal> {
+    let place = Some(place);
+    Err(Refusal { number, place })
+}
 
 fn pair(p: u32, r: u32, window: u32, left: (i64, u64), right: (i64, u64)) {
     let vector = |(offset, line)| Vector { offset, line };
@@ -35,7 +47,7 @@ fn step_vectors_of_the_document() {
         pair(7, 5, 4, (-2, 1), (3, 2));
         pair(11, 4, 6, (-3, 2), (4, 1));
         pair(4, 1, 4, (-3, 1), (1, 1));
-        assert_eq!(step_vectors(4, 1, 6), Err(Refusal(6)));
+        assert_eq!(step_vectors(4, 1, 6), alone(6));
         single(12, 6, 6, 2);
         pair(12, 6, 8, (-6, 1), (6, 1));
         single(9, 0, 4, 1);
@@ -58,7 +70,7 @@ fn hits_of_the_document() {
         let cells: Vec<_> = room[..6].iter().map(cell).collect();
         assert_eq!(cells, [(-3, 2), (1, 3), (-2, 5), (2, 6), (-1, 8), (0, 11)]);
         assert!(first_hit(run(16_777_216), 11, 0).is_ok());
-        assert_eq!(first_hit(run(16_777_217), 11, 0), Err(Refusal(2)));
+        assert_eq!(first_hit(run(16_777_217), 11, 0), alone(18));
     });
 }
 
@@ -83,21 +95,124 @@ fn map_and_file_of_the_document() {
     });
 }
 
+/// A text's answer, the library's and the reference's.
+fn text_says(text: &str, answer: Result<Input, Refusal>) {
+    assert_eq!(read_text(text.as_bytes()), answer, "{}", text);
+    texts::compare(text.as_bytes());
+}
+
+/// Lines that break a limit, or two, and the refusal that comes. After a first line of 0 no last line comes before it, so 16
+/// and 17 are never both at hand.
+const LINES: [(u32, u32, u8); 7] = [
+    (0, 0, 16),
+    (0, 16_777_217, 16),
+    (7, 6, 17),
+    (16_777_217, 16_777_216, 17),
+    (16_777_219, 16_777_218, 17),
+    (1, 16_777_217, 18),
+    (16_777_217, 16_777_217, 18),
+];
+
+/// Every call with a run tells the line limit before the interval of 0, and before all that is wrong besides.
+#[test]
+fn line_limits_of_the_request() {
+    trials("the request's line limits", 1, |_| {
+        for (first, last, number) in LINES {
+            let run = Run {
+                window: 4,
+                interval: 0,
+                first,
+                last,
+            };
+            assert_eq!(first_hit(run, 0, u64::MAX), alone(number));
+            assert_eq!(list_hits(run, 0, u64::MAX, &mut []), alone(number));
+            assert_eq!(add_to_map(run, &[0], &[0, 0], &mut []), alone(number));
+            assert_eq!(save(run, &[], &mut []), alone(number));
+            text_says(&format!("run 4 0 {} {}\n", first, last), alone(number));
+            let file = reference::file_of(&wide(run), &[0; 20]);
+            let mut map = [9; 20];
+            assert_eq!(read(&file, &mut map), alone(number));
+            assert_eq!(map, [9; 20]);
+        }
+    });
+}
+
+const BENCH: Run = Run {
+    window: 4,
+    interval: 10,
+    first: 1,
+    last: 5,
+};
+
+#[test]
+fn heading_with_line_0() {
+    trials("a file whose first line is 0", 1, |_| {
+        let mut file = reference::file_of(&wide(BENCH), &[0; 20]);
+        let mut map = [9; 20];
+        file[16] = 0;
+        assert_eq!(read(&file, &mut map), alone(14));
+        files::seal(&mut file, 16);
+        assert_eq!(read(&file, &mut map), alone(16));
+        assert_eq!(map, [9; 20]);
+    });
+}
+
+#[test]
+fn places_of_the_request() {
+    trials("the request's places", 1, |_| {
+        let text = "run 4 10 1 5\nsrc 7 60\nsrc 0 0\nsrc 9 0\n";
+        text_says(text, of_source(4, 2));
+        let mut map = [9; 19];
+        let mut add = |periods: &[u32], weights: &[u32]| {
+            let answer = add_to_map(BENCH, periods, weights, &mut map);
+            assert_eq!(map, [9; 19]);
+            answer
+        };
+        assert_eq!(add(&[7, 3], &[60, 256]), of_source(7, 2));
+        assert_eq!(add(&[7, 0, 9], &[60, 0, 0]), of_source(4, 2));
+        assert_eq!(add(&[7, 3, 0], &[0, 256, 0]), of_source(7, 1));
+        assert_eq!(add(&[7, 3], &[60, 255]), alone(9));
+        assert_eq!(add(&[0, 3], &[60]), alone(10));
+    });
+}
+
+/// Where no list is given, and where the list as a whole or the form is at fault, there is no place.
+#[test]
+fn refusals_without_a_place() {
+    trials("refusals without a place", 1, |_| {
+        assert_eq!(step_vectors(0, 0, 4), alone(4));
+        assert_eq!(first_hit(BENCH, 0, 0), alone(4));
+        assert_eq!(list_hits(BENCH, 0, 0, &mut [0]), alone(4));
+        let run = "run 4 10 1 5\n";
+        text_says(&[run, &"src 0 0\n".repeat(65)].concat(), alone(12));
+        text_says(&[run, "src 0 0\nsrc 7\n"].concat(), alone(11));
+    });
+}
+
 /// What a refusal is said to be, after its number.
 fn reason(number: u8) -> String {
-    let words = Refusal(number).to_string();
+    let place = None;
+    let words = Refusal { number, place }.to_string();
     let start = format!("refused {}: ", number);
     words.strip_prefix(&start).unwrap().to_string()
 }
 
+/// There are words for all numbers that are given, which are those up to 18 without 2.
 #[test]
 fn every_refusal_has_its_words() {
-    for number in 1..=15 {
-        assert!(!reason(number).contains("unknown"));
+    for number in 1..=18 {
+        assert_eq!(reason(number).contains("unknown"), number == 2);
         for other in 1..number {
             assert_ne!(reason(other), reason(number), "{} and {}", other, number);
         }
     }
-    assert_eq!(reason(16), reason(0));
-    assert!(reason(16).contains("unknown"));
+    assert_eq!(reason(2), reason(0));
+    assert_eq!(reason(2), reason(19));
+}
+
+#[test]
+fn words_with_a_place() {
+    let (number, place) = (4, Some(2));
+    let words = "refused 4: a period is 0 or above 2,147,483,647 (source 2)";
+    assert_eq!(Refusal { number, place }.to_string(), words);
 }

@@ -1,11 +1,9 @@
 use crate::library;
-use crate::support::{trials, wide, Random};
+use crate::support::{told, trials, wide, Random};
 use zenithgong::Run;
 
-fn ours_read(file: &[u8], map: &mut [u8]) -> Result<reference::Run, u8> {
-    library::read(file, map)
-        .map(wide)
-        .map_err(|refusal| refusal.0)
+fn ours_read(file: &[u8], map: &mut [u8]) -> reference::Reply<reference::Run> {
+    library::read(file, map).map(wide).map_err(told)
 }
 
 /// Reads a file into a room of this length, held to the reference.
@@ -31,7 +29,7 @@ pub fn compare_save(random: &mut Random, run: Run, map: &[u8], length: usize) {
     let mut file = random.bytes(length);
     let mut after = file.clone();
     let expected = reference::save(&wide(run), map, &mut after);
-    let said = library::save(run, map, &mut file).map_err(|refusal| refusal.0);
+    let said = library::save(run, map, &mut file).map_err(told);
     assert_eq!(said, expected, "{:?}, a map of {} bytes", run, map.len());
     assert!(file == after, "{:?}: the files differ", run);
 }

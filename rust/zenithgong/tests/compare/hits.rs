@@ -1,12 +1,13 @@
 use crate::library;
-use crate::support::{trials, wide, Random};
+use crate::support::{told, trials, wide, Random};
+use reference::Reply;
 use zenithgong::{FirstHit, Listing, Run};
 
-fn ours_first(run: Run, period: u32, start: u64) -> Result<Option<i128>, u8> {
+fn ours_first(run: Run, period: u32, start: u64) -> Reply<Option<i128>> {
     match library::first_hit(run, period, start) {
         Ok(FirstHit::At(cell)) => Ok(Some(cell as i128)),
         Ok(FirstHit::Nothing) => Ok(None),
-        Err(refusal) => Err(refusal.0),
+        Err(refusal) => Err(told(refusal)),
     }
 }
 
@@ -15,11 +16,11 @@ fn ours_listing(
     period: u32,
     start: u64,
     room: &mut [u64],
-) -> Result<(usize, Option<i128>), u8> {
+) -> Reply<(usize, Option<i128>)> {
     match library::list_hits(run, period, start, room) {
         Ok(Listing::Done(count)) => Ok((count, None)),
         Ok(Listing::More(count, next)) => Ok((count, Some(next as i128))),
-        Err(refusal) => Err(refusal.0),
+        Err(refusal) => Err(told(refusal)),
     }
 }
 

@@ -1,9 +1,10 @@
 use crate::library;
-use crate::support::{trials, wide, Random};
+use crate::support::{told, trials, wide, Random};
+use reference::Reply;
 use zenithgong::Run;
 
-fn ours(run: Run, periods: &[u32], weights: &[u32], map: &mut [u8]) -> Result<(), u8> {
-    library::add_to_map(run, periods, weights, map).map_err(|refusal| refusal.0)
+fn ours(run: Run, periods: &[u32], weights: &[u32], map: &mut [u8]) -> Reply<()> {
+    library::add_to_map(run, periods, weights, map).map_err(told)
 }
 
 /// Periods and weights of so many sources, all within the limits.
@@ -42,8 +43,9 @@ fn small() {
         let count = random.below(5);
         let (mut periods, mut weights) = sources(random, count);
         if random.one_in(8) {
-            periods.push(random.number());
-            weights.push(random.number());
+            let at = random.below(count + 1) as usize;
+            periods.insert(at, random.number());
+            weights.insert(at, random.number());
         }
         if random.one_in(12) {
             weights.push(1);

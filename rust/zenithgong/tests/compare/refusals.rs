@@ -1,6 +1,6 @@
 //! Every set of faults of every call, each fault in one of its forms, and everything else at an end of its range or small. What
-//! is expected is the reference's, which takes the tests in 01's order.
-use crate::support::{trials, Random};
+//! is expected is the reference's, which takes the tests in 01's order, with E1's line limits and places of sources.
+use crate::support::{trials, wide, Random};
 use crate::{files, hits, maps, texts, vectors};
 use zenithgong::Run;
 
@@ -39,19 +39,35 @@ fn weight(random: &mut Random, bad: bool) -> u32 {
     }
 }
 
+const LAST: u32 = 16_777_216;
+
+/// Lines that break a limit: 16, then 17, then 18 alone, then 16 with 18, then 17 with 18. (16 and 17 do not come together.)
+const BROKEN: [(u32, u32); 15] = [
+    (0, 0),
+    (0, 5),
+    (0, LAST),
+    (1, 0),
+    (7, 6),
+    (LAST, LAST - 1),
+    (LAST + 1, LAST),
+    (1, LAST + 1),
+    (LAST + 1, LAST + 1),
+    (u32::MAX, u32::MAX),
+    (0, LAST + 1),
+    (0, u32::MAX),
+    (LAST + 2, LAST + 1),
+    (LAST + 3, LAST + 2),
+    (u32::MAX, LAST + 1),
+];
+
 /// A run of one or two lines.
 fn run(random: &mut Random, faults: u64) -> Run {
-    const LAST: u32 = 16_777_216;
     let good = [(1, 1), (1, 2), (LAST - 1, LAST), (LAST, LAST)];
-    let bad = [
-        (0, 5),
-        (0, 0),
-        (7, 6),
-        (1, LAST + 1),
-        (LAST + 1, LAST + 1),
-        (u32::MAX, u32::MAX),
-    ];
-    let lines = if has(faults, 1) { &bad[..] } else { &good[..] };
+    let lines = if has(faults, 1) {
+        &BROKEN[..]
+    } else {
+        &good[..]
+    };
     let (first, last) = lines[random.below(lines.len() as u64) as usize];
     let interval = pick(random, &[1, u32::MAX]);
     Run {
@@ -72,15 +88,29 @@ fn length(random: &mut Random, bad: bool, right: i128, step: usize) -> usize {
     }
 }
 
-/// So many sources, of which one may have a faulty period and one a faulty weight.
+/// So many sources, of which up to three may have a faulty period and up to three a faulty weight.
 fn sources(random: &mut Random, count: usize, faults: u64, fault: u32) -> (Vec<u32>, Vec<u32>) {
     let mut periods: Vec<u32> = (0..count).map(|_| random.period()).collect();
     let mut weights: Vec<u32> = (0..count).map(|_| random.between(1, 255)).collect();
-    let at = random.below(count as u64) as usize;
-    periods[at] = period(random, has(faults, fault));
-    let at = random.below(count as u64) as usize;
-    weights[at] = weight(random, has(faults, fault + 1));
+    for _ in 0..random.between(1, 3) {
+        let at = random.below(count as u64) as usize;
+        periods[at] = period(random, has(faults, fault));
+        let at = random.below(count as u64) as usize;
+        weights[at] = weight(random, has(faults, fault + 1));
+    }
     (periods, weights)
+}
+
+/// The text of a run and its sources.
+fn text(run: Run, periods: &[u32], weights: &[u32]) -> String {
+    let mut text = format!(
+        "run {} {} {} {}\n",
+        run.window, run.interval, run.first, run.last
+    );
+    for (period, weight) in periods.iter().zip(weights) {
+        text += &format!("src {} {}\n", period, weight);
+    }
+    text
 }
 
 #[test]
@@ -105,11 +135,11 @@ fn of_vectors() {
 
 #[test]
 fn of_hits() {
-    trials("faults of first hit and listing", 25 * 64, |random| {
+    trials("faults of first hit and listing", 100 * 64, |random| {
         let faults = random.seed() % 64;
         let run = run(random, faults);
         let period = period(random, has(faults, RUN));
-        let cells = crate::support::wide(run).cells().clamp(0, i64::MAX as i128) as u64;
+        let cells = wide(run).cells().clamp(0, i64::MAX as i128) as u64;
         let starts = match has(faults, RUN + 1) {
             true => [cells, cells + 1, u64::MAX],
             false => [0, cells / 2, cells.saturating_sub(1)],
@@ -122,26 +152,63 @@ fn of_hits() {
 
 #[test]
 fn of_maps() {
-    trials("faults of the map", 25 * 128, |random| {
+    trials("faults of the map", 400 * 128, |random| {
         let faults = random.seed() % 128;
         let run = run(random, faults);
-        let (periods, mut weights) = sources(random, 3, faults, RUN + 1);
+        let count = pick(random, &[1, 3, 9]);
+        let (periods, mut weights) = sources(random, count as usize, faults, RUN + 1);
         if has(faults, RUN) {
             weights.pop();
         }
-        let cells = crate::support::wide(run).cells();
+        let cells = wide(run).cells();
         let length = length(random, has(faults, RUN + 3), cells, 1);
         let map = random.bytes(length);
         maps::compare(run, &periods, &weights, map, false);
     });
 }
 
+/// The map call and a text with the same list, any source of which may be at fault in its period, its weight or both.
+#[test]
+fn of_lists() {
+    trials("faults of sources in lists", 50_000, |random| {
+        let small = Run {
+            window: pick(random, &[2, 4]),
+            ..run(random, 0)
+        };
+        let count = pick(random, &[1, 2, 3, 5, 10, 64]) as u64;
+        let rare = random.between(1, 2 * count) as u64;
+        let source = |random: &mut Random| {
+            let (one, other) = (random.one_in(rare), random.one_in(rare));
+            (period(random, one), weight(random, other))
+        };
+        let (periods, weights): (Vec<_>, Vec<_>) = (0..count).map(|_| source(random)).unzip();
+        texts::compare(text(small, &periods, &weights).as_bytes());
+        let off = random.one_in(4);
+        let length = length(random, off, wide(small).cells(), 1);
+        let map = random.bytes(length);
+        maps::compare(small, &periods, &weights, map, false);
+    });
+}
+
+/// Places of one byte, of two and of three; the source after the first at fault is at fault too.
+#[test]
+fn of_long_lists() {
+    trials("faults of sources in long lists", 1, |random| {
+        for place in [64, 254, 255, 256, 65_534, 65_535, 65_536, 69_998] {
+            let (mut periods, mut weights) = (vec![7; 70_000], vec![60; 70_000]);
+            periods[place] = period(random, true);
+            weights[place + 1] = weight(random, true);
+            maps::compare(run(random, 0), &periods, &weights, Vec::new(), false);
+        }
+    });
+}
+
 #[test]
 fn of_saving() {
-    trials("faults of saving", 25 * 32, |random| {
+    trials("faults of saving", 100 * 32, |random| {
         let faults = random.seed() % 32;
         let run = run(random, faults);
-        let cells = crate::support::wide(run).cells();
+        let cells = wide(run).cells();
         let size = length(random, has(faults, RUN), cells, 1);
         let step = if random.one_in(2) { 1 } else { 512 };
         let bytes = 512 + (cells.clamp(0, 20_000) + 503) / 504 * 512;
@@ -154,7 +221,7 @@ fn of_saving() {
 /// A file of the document's run, with faults put in: first what stands under a check, then the checks, then the length.
 #[test]
 fn of_reading() {
-    trials("faults of reading", 4 * 1024, |random| {
+    trials("faults of reading", 16 * 1024, |random| {
         let faults = random.seed() % 1024;
         let good = Run {
             window: 4,
@@ -163,7 +230,7 @@ fn of_reading() {
             last: 5,
         };
         let map = random.bytes(20);
-        let mut file = reference::file_of(&crate::support::wide(good), &map);
+        let mut file = reference::file_of(&wide(good), &map);
         let bad = run(random, faults);
         let numbers = [
             (0, 8, bad.window),
@@ -206,7 +273,7 @@ fn of_reading() {
 
 #[test]
 fn of_texts() {
-    trials("faults of texts", 10 * 256, |random| {
+    trials("faults of texts", 200 * 256, |random| {
         let faults = random.seed() % 256;
         let mut run = run(random, faults);
         if has(faults, RUN + 1) && !has(faults, 1) {
@@ -219,13 +286,7 @@ fn of_texts() {
             pick(random, &[1, 5, 64])
         };
         let (periods, weights) = sources(random, count as usize, faults, RUN + 2);
-        let mut text = format!(
-            "run {} {} {} {}\n",
-            run.window, run.interval, run.first, run.last
-        );
-        for (period, weight) in periods.iter().zip(weights) {
-            text += &format!("src {} {}\n", period, weight);
-        }
+        let mut text = text(run, &periods, &weights);
         if has(faults, RUN + 4) {
             let ends = [
                 "\n",

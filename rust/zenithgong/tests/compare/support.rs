@@ -1,6 +1,6 @@
 //! Random inputs, one seed a trial; what a trial calls is counted.
 use crate::library::calls;
-use zenithgong::Run;
+use zenithgong::{Refusal, Run};
 
 /// Numbers at and around which something changes.
 const EDGES: [u64; 8] = [
@@ -87,7 +87,8 @@ impl Random {
             1 => run.interval = 0,
             2 => run.first = self.number(),
             3 => run.last = self.number(),
-            4 => {
+            4 => (run.first, run.last) = (self.number(), self.number()),
+            5 => {
                 run = Run {
                     window: 3,
                     interval: 0,
@@ -116,6 +117,12 @@ pub fn wide(run: Run) -> reference::Run {
         first: run.first as i128,
         last: run.last as i128,
     }
+}
+
+/// A refusal with its place, as the reference has it.
+pub fn told(refusal: Refusal) -> reference::Refusal {
+    let Refusal { number, place } = refusal;
+    reference::Refusal { number, place }
 }
 
 /// Names the seed where a trial fails.

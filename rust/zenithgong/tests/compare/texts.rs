@@ -1,5 +1,6 @@
 use crate::library;
-use crate::support::{trials, wide, Random};
+use crate::support::{told, trials, wide, Random};
+use reference::Refusal;
 
 /// Reads a text, held to the reference.
 pub fn compare(text: &[u8]) {
@@ -11,7 +12,7 @@ pub fn compare(text: &[u8]) {
                 input.sources.iter().map(source).collect::<Vec<_>>(),
             ))
         }
-        Err(refusal) => Err(refusal.0),
+        Err(refusal) => Err(told(refusal)),
     };
     let words = String::from_utf8_lossy(text);
     assert_eq!(ours, reference::read_text(text), "{:?}", words);
@@ -90,6 +91,20 @@ fn with_sources(head: &str, source: &str, count: usize) -> Vec<u8> {
     [head, &source.repeat(count)].concat().into_bytes()
 }
 
+/// Runs at the limits of the window and of both lines.
+fn run_lines() -> Vec<String> {
+    let mut lines = Vec::new();
+    for window in [0, 1, 2, 3, 4094, 4096, 4098] {
+        for last in [0, 1, 15, 16, 17, 32767, 32768, 32769, 16777216, 16777217] {
+            lines.extend(
+                [0, 1, 16777216, 16777217, 16777218]
+                    .map(|first| format!("run {} 1 {} {}\n", window, first, last)),
+            );
+        }
+    }
+    lines
+}
+
 #[test]
 fn limits() {
     trials("texts at the limits", 1, |_| {
@@ -102,10 +117,8 @@ fn limits() {
             tried(with_sources(run, "src 7 60\n", count));
             tried(with_sources("run 4 10 1 555\n", "src 7 60\n", count));
         }
-        for window in [0, 1, 2, 3, 4094, 4096, 4098] {
-            for last in [0, 1, 15, 16, 17, 32767, 32768, 32769, 16777216, 16777217] {
-                tried(format!("run {} 1 1 {}\n", window, last).into_bytes());
-            }
+        for line in run_lines() {
+            tried(line.into_bytes());
         }
         for number in [
             "0",
@@ -156,7 +169,7 @@ fn longest() {
             let text = of_length(length);
             assert_eq!(text.len(), length);
             let number = if length <= 4_096 { 12 } else { 11 };
-            assert_eq!(reference::read_text(&text), Err(number));
+            assert_eq!(reference::read_text(&text), Err(Refusal::alone(number)));
             compare(&text);
         }
     });

@@ -1,22 +1,22 @@
 use crate::library;
-use crate::support::{trials, Random};
-use reference::Steps;
+use crate::support::{told, trials, Random};
+use reference::{Reply, Steps};
 use zenithgong::Vector;
 
 /// One call, held to the reference by 01's conditions.
-pub fn compare(p: u32, r: u32, window: u32) -> Result<Steps, u8> {
+pub fn compare(p: u32, r: u32, window: u32) -> Reply<Steps> {
     let steps = ours(p, r, window);
     let right = reference::are_steps(p as i128, r as i128, window as i128, &steps);
     assert!(right, "p {} r {} I {}: {:?}", p, r, window, steps);
     steps
 }
 
-fn ours(p: u32, r: u32, window: u32) -> Result<Steps, u8> {
+fn ours(p: u32, r: u32, window: u32) -> Reply<Steps> {
     let pair = |v: Vector| (v.offset as i128, v.line as i128);
     match library::step_vectors(p, r, window) {
         Ok(zenithgong::Steps::Pair(left, right)) => Ok(Steps::Pair(pair(left), pair(right))),
         Ok(zenithgong::Steps::Single(only)) => Ok(Steps::Single(pair(only))),
-        Err(refusal) => Err(refusal.0),
+        Err(refusal) => Err(told(refusal)),
     }
 }
 

@@ -10,8 +10,8 @@ pub put-cells-spec : {M : Type 1} → statement M
 put-cells-spec =
     tie.close
     (tie.spec
-    (λ refusal file map₀ all x₀ map x. length map ≡ length map₀)
-    (λ refusal file map₀ all x₀ map x. all - x)
+    (λ file map₀ all x₀ map x. length map ≡ length map₀)
+    (λ file map₀ all x₀ map x. all - x)
     (λ c. search needs)
     (λ c. search needs)
     (λ c. search needs)
