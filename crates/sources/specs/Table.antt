@@ -13,7 +13,7 @@ use Rattle.sources.specs.Entry.{Entry}
 abbrev pub BadWeight : ℕ → Type 0
 BadWeight weight = (weight ≡ 0) ⊎ (ceiling < weight)
 
--- "source by source 4 before 7"; "where a source in a list is at fault .. its place, counted from 1" (E1): the first of these at
+-- "source by source 4 before 7"; "Where a source in a list is at fault .. its place, counted from 1" (E1): the first of these at
 -- place k.
 abbrev pub sourcesTable : ℕ → List Entry → List Row
 sourcesTable k [] = []

@@ -50,9 +50,9 @@ module _ {text : List ℕ} {run : Run} {at : ℕ} (l : Line text 0 runWord (runN
 
 -- what reading the `src` lines answers, after a line with four numbers
 pub all-lines : {text numbers : List ℕ} {at : ℕ} → Line text 0 runWord numbers at → length numbers ≡ 4 → length text ≤ 4096
-    → (periods weights periods′ weights′ : List ℕ) (count : ℕ) (found : Found) → SourcesAt text at periods weights periods′ weights′ count found → LinesAt text numbers periods weights periods′ weights′ count found
-all-lines l h short periods weights periods′ weights′ count (Next end) s = record { short = short; at = _; runs = l; lists = s }
-all-lines l h short periods weights periods′ weights′ count (Refused reason) s = (s .0, no-sources (line-run l h refl) (s .1))
+    → (periods weights periods′ weights′ : List ℕ) (count count′ : ℕ) (found : Found) → SourcesAt text at periods weights periods′ weights′ count count′ found → LinesAt text numbers periods weights periods′ weights′ count count′ found
+all-lines l h short periods weights periods′ weights′ count count′ (Next end) s = record { short = short; at = _; runs = l; lists = s }
+all-lines l h short periods weights periods′ weights′ count count′ (Refused reason) s = (s .0, no-sources (line-run l h refl) (s .1), s .2)
 
 -- ---- the reply that it makes
 

@@ -69,10 +69,10 @@ pub record LinesListed (text : List ℕ) (at : ℕ) (periods weights periods′ 
   pub storesPeriods : periods′ ≡ storedIn (periodsOf entries) periods
   pub storesWeights : weights′ ≡ storedIn (weightsOf entries) weights
 
--- `src` lines are looked for, up to the end; of the lists nothing is said where something else stands.
-abbrev pub SourcesAt : List ℕ → ℕ → List ℕ → List ℕ → List ℕ → List ℕ → ℕ → Found → Type 0
-SourcesAt text at periods weights periods′ weights′ count (Next next) = LinesListed text at periods weights periods′ weights′ count next
-SourcesAt text at periods weights periods′ weights′ count (Refused reason) = NotOfForm reason × NoLines text at
+-- `src` lines are looked for, up to the end. Where something else stands the count is as it was, and of the lists nothing is said.
+abbrev pub SourcesAt : List ℕ → ℕ → List ℕ → List ℕ → List ℕ → List ℕ → ℕ → ℕ → Found → Type 0
+SourcesAt text at periods weights periods′ weights′ count count′ (Next next) = LinesListed text at periods weights periods′ weights′ count′ next
+SourcesAt text at periods weights periods′ weights′ count count′ (Refused reason) = NotOfForm reason × NoLines text at × (count′ ≡ count)
 
 -- The text is a `run` line with these numbers and, after it, so many `src` lines, whose numbers the two lists have.
 pub record AllLines (text numbers periods weights periods′ weights′ : List ℕ) (count next : ℕ) : Type 0 where
@@ -81,7 +81,7 @@ pub record AllLines (text numbers periods weights periods′ weights′ : List �
   pub runs : Line text 0 runWord numbers at
   pub lists : LinesListed text at periods weights periods′ weights′ count next
 
--- The lines of a whole text are looked for.
-abbrev pub LinesAt : List ℕ → List ℕ → List ℕ → List ℕ → List ℕ → List ℕ → ℕ → Found → Type 0
-LinesAt text numbers periods weights periods′ weights′ count (Next next) = AllLines text numbers periods weights periods′ weights′ count next
-LinesAt text numbers periods weights periods′ weights′ count (Refused reason) = NotOfForm reason × Reads text none
+-- The lines of a whole text are looked for; where the text has not the form the count is as it was.
+abbrev pub LinesAt : List ℕ → List ℕ → List ℕ → List ℕ → List ℕ → List ℕ → ℕ → ℕ → Found → Type 0
+LinesAt text numbers periods weights periods′ weights′ count count′ (Next next) = AllLines text numbers periods weights periods′ weights′ count′ next
+LinesAt text numbers periods weights periods′ weights′ count count′ (Refused reason) = NotOfForm reason × Reads text none × (count′ ≡ count)

@@ -61,7 +61,7 @@ fn read_sources(
     weights: &mut [u32],
     count: &mut usize,
 ) -> Found
-    ensures { λ r. ⌜ SourcesAt (now (text .entry)) at (now (periods .entry)) (now (weights .entry)) (now (periods .exit)) (now (weights .exit)) (now (count .exit)) r ⌝ }
+    ensures { λ r. ⌜ SourcesAt (now (text .entry)) at (now (periods .entry)) (now (weights .entry)) (now (periods .exit)) (now (weights .exit)) (now (count .entry)) (now (count .exit)) r ⌝ }
 {
     let mut next = at;
     let mut k: usize = 0;
@@ -86,7 +86,7 @@ fn read_lines(
     count: &mut usize,
 ) -> Found
     requires { ⌜ length (now numbers) ≡ 4 ⌝ }
-    ensures { λ r. ⌜ LinesAt (now (text .entry)) (now (numbers .exit)) (now (periods .entry)) (now (weights .entry)) (now (periods .exit)) (now (weights .exit)) (now (count .exit)) r ⌝ }
+    ensures { λ r. ⌜ LinesAt (now (text .entry)) (now (numbers .exit)) (now (periods .entry)) (now (weights .entry)) (now (periods .exit)) (now (weights .exit)) (now (count .entry)) (now (count .exit)) r ⌝ }
 {
     if LONGEST < text.len() {
         return Found::Refused(Reason::Text);

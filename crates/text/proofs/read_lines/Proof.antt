@@ -10,7 +10,7 @@ use Rattle.text.proofs.read_lines.Statement.{statement}
 use Rattle.text.proofs.read_lines.Tie as tie
 
 returns : tie.Need-returns
-returns c = (refl, too-long (omega arith))
+returns c = (refl, too-long (omega arith), refl)
 
 slice-aggregate-read-line : tie.Need-slice-aggregate-read-line
 slice-aggregate-read-line c = search needs
@@ -30,8 +30,8 @@ same-length c = c .before .before .before .before .read-line .kept .1 .1 .1 .0
 returns-2 : tie.Need-returns-2
 returns-2 c =
     let read = c .before .before .before .before in
-    hand-on (c .enum-told .given .1) (LineAt _ _ _ _ _ _) (LinesAt _ _ _ _ _ _ _) (read .read-line .ensures)
-    (λ r. (r .0, no-run (read .before .before .before .before .before .before .before .before .pre) (r .1)))
+    hand-on (c .enum-told .given .1) (LineAt _ _ _ _ _ _) (LinesAt _ _ _ _ _ _ _ _) (read .read-line .ensures)
+    (λ r. (r .0, no-run (read .before .before .before .before .before .before .before .before .pre) (r .1), refl))
 
 read-sources-requires : tie.Need-read-sources-requires
 read-sources-requires c κs = search needs
@@ -51,7 +51,7 @@ returns-3 c =
     let told = c .before .before .before .before .before .before .before .before in
     let read = told .before .before .before .before .before in
     all-lines (subst (LineAt _ _ _ _ _ _) (told .before .run .given .1) (read .read-line .ensures)) (read .read-line .kept .1 .1 .1 .0 ∙ read .before .before .before .before .before .before .before .before .pre)
-    (omega (arith, read .before .before .before .if1 .left)) _ _ _ _ _ (sources .result) (sources .ensures)
+    (omega (arith, read .before .before .before .if1 .left)) _ _ _ _ _ _ (sources .result) (sources .ensures)
 
 pub read-lines-spec : {M : Type 1} → statement M
 read-lines-spec =

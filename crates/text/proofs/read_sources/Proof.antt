@@ -1,7 +1,7 @@
 -- `text::read_sources` meets its contract. The loop's invariant: k lines are passed up to `next`, and stored as far as there is room.
 -- The measure is what is left of the text. Assumes nothing.
 use Prim.Native.Nat.{_-_}
-use mathlib.Core.Path.{subst, _∙_}
+use mathlib.Core.Path.{refl, subst, _∙_}
 use native.Mathlib.Omega.{arith}
 use borrow.Author.Needs.{needs}
 use lib.ListN.{length}
@@ -51,8 +51,8 @@ same-length-2 c =
 returns : tie.Need-returns Inv-loop μ-loop
 returns c =
     let read = c .before .before .before .before .before .before in
-    hand-on (c .enum-told .given .1) (SourceAt _ _ _ _ _ _ _) (SourcesAt _ _ _ _ _ _ _) (read .read-source .ensures)
-    (λ r. (r .0, listing-fails (read .before .before .before .before .loop .inv) (omega arith) (r .1)))
+    hand-on (c .enum-told .given .1) (SourceAt _ _ _ _ _ _ _) (SourcesAt _ _ _ _ _ _ _ _) (read .read-source .ensures)
+    (λ r. (r .0, listing-fails (read .before .before .before .before .loop .inv) (omega arith) (r .1), refl))
 
 add-k : tie.Need-add-k Inv-loop μ-loop
 add-k c = search needs

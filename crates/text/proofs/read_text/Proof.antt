@@ -30,7 +30,7 @@ lines-read : (c : tie.After-enum-told)
     → let after = c .before .before .before .before .before .read-lines .last .1 in
     AllLines (c .before .before .before .before .before .before .before .before .before .before .before .args .text .now) (after .0) (zeros mostSources) (zeros mostSources) (after .1 .0) (after .1 .1 .0) (after .1 .1 .1 .0) (c .enum-told .given .0 .0)
 unfolding zeros
-lines-read c = subst (LinesAt _ _ _ _ _ _ _) (c .enum-told .given .1) (c .before .before .before .before .before .read-lines .ensures)
+lines-read c = subst (LinesAt _ _ _ _ _ _ _ _) (c .enum-told .given .1) (c .before .before .before .before .before .read-lines .ensures)
 
 -- the `run` line
 run-read : (c : tie.After-run-of)
@@ -110,7 +110,7 @@ refuse-requires c κs = search needs
 returns : tie.Need-returns
 returns c =
     let told = c .before .before in
-    let r = subst (LinesAt _ _ _ _ _ _ _) (told .reason .given .1) (told .before .before .before .before .before .read-lines .ensures) in
+    let r = subst (LinesAt _ _ _ _ _ _ _ _) (told .reason .given .1) (told .before .before .before .before .before .read-lines .ensures) in
     refuses-form (r .1) (r .0) (c .refuse .ensures)
 
 enum-told : tie.Need-enum-told
