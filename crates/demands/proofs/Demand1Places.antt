@@ -1,6 +1,6 @@
 -- Request E1: "Where a source in a list is at fault (4 or 7 so far) they also want its place, counted from 1. From then on a refusal
--- carries the reason and, where it concerns a source, that place"; "in the place of 2, which is no longer given". Of every reply that a
--- promise admits: which place its refusal has, and that it is not 2; and no two reasons share a number. Assumes nothing.
+-- carries the reason and, where it concerns a source, that place". Of every reply that a promise admits: which place its refusal has;
+-- and no two reasons share a number. Assumes nothing.
 use Prim.Native.Nat.{ℕ, zero, suc, _+_, _-_, _*_, _≤_, _<_}
 use native.Mathlib.Omega.{arith}
 use mathlib.Core.Path.{_≡_, refl}
@@ -19,21 +19,18 @@ use Rattle.scope.specs.Refusal.{number}
 use Rattle.scope.specs.Reply.{refused}
 use Rattle.scope.specs.Table.{Row, _given_, Says, runTable}
 use Rattle.scope.proofs.Judged as Judged
-use Rattle.scope.proofs.Rendered.{Every, every-append, every-said, said-not-two}
+use Rattle.scope.proofs.Rendered.{Every, every-append, every-said}
 use Rattle.sources.specs.Entry.{Entry, entriesOf}
 use Rattle.sources.specs.Table.{sourcesTable}
 use Rattle.sources.proofs.Entries.{entries-few}
 use Rattle.vectors.specs.declared.Steps.{Steps}
 use Rattle.vectors.specs.Promise.{saysVectors, VectorsPromise}
-use Rattle.vectors.proofs.Table.{vectors-renders}
 use Rattle.hits.specs.declared.FirstHit.{FirstHit}
 use Rattle.hits.specs.declared.Listing.{Listing}
 use Rattle.hits.specs.Promise.{saysFirstHit, saysListing, FirstHitPromise, ListingPromise}
-use Rattle.hits.proofs.Table.{first-hit-renders, listing-renders}
 use Rattle.map.specs.declared.Added.{Added}
 use Rattle.map.specs.Promise.{saysMap, MapPromise}
 use Rattle.map.specs.Table.{mapTable}
-use Rattle.map.proofs.Table.{map-renders}
 use Rattle.fileblocks.specs.FileBlock.{contentBytes}
 use Rattle.fileblocks.specs.Table.{fileBlockTable}
 use Rattle.saved.specs.declared.Saved.{Saved}
@@ -41,12 +38,10 @@ use Rattle.saved.specs.declared.Loaded.{Loaded}
 use Rattle.saved.specs.File.{fileBlocksFor, bytesFor, fileBlockAt, runOf}
 use Rattle.saved.specs.Promise.{saysSaving, saysReading, SavingPromise, ReadingPromise}
 use Rattle.saved.specs.Table.{savingTable, laterFileBlocksTable, readingTable}
-use Rattle.saved.proofs.Table.{saving-renders, reading-renders}
 use Rattle.text.specs.Form.{Content}
 use Rattle.text.specs.Promise.{mostSources, mostCells, Reads, saysText, TextPromise}
 use Rattle.text.specs.Table.{textTable, SaysOfText}
 use Rattle.text.specs.declared.Input.{Input}
-use Rattle.text.proofs.Table.{text-renders}
 use Rattle.text.proofs.Unique.{spells-unique}
 use Rattle.vectors.specs.Table.{vectorsTable}
 use Rattle.hits.specs.Table.{firstHitTable, listingTable}
@@ -75,13 +70,13 @@ pub vectors-without : (p r I : ℕ) → Every Without (vectorsTable p r I)
 vectors-without p r I = (refl, (refl, (refl, (refl, tt))))
 
 pub first-hit-without : (run : Run) (source : Source) (start : RunCell) → Every Without (firstHitTable run source start)
-first-hit-without run source start = (refl, (refl, (refl, (refl, (refl, (refl, (refl, tt)))))))
+first-hit-without run source start = (refl, (refl, (refl, (refl, (refl, (refl, tt))))))
 
 pub listing-without : (run : Run) (source : Source) (start : RunCell) (room : List ℕ) → Every Without (listingTable run source start room)
-listing-without run source start room = (refl, (refl, (refl, (refl, (refl, (refl, (refl, (refl, tt))))))))
+listing-without run source start room = (refl, (refl, (refl, (refl, (refl, (refl, (refl, tt)))))))
 
 pub saving-without : (run : Run) (map room : List ℕ) → Every Without (savingTable run map room)
-saving-without run map room = (refl, (refl, (refl, (refl, (refl, (refl, tt))))))
+saving-without run map room = (refl, (refl, (refl, (refl, (refl, tt)))))
 
 later-without : (size : ℕ) (file : List ℕ) (n : ℕ) → Every Without (laterFileBlocksTable size file n)
 later-without size file zero = tt
@@ -93,15 +88,12 @@ reading-without file map =
     let size = bytesFor (runOf file) in
     let blocks = laterFileBlocksTable size file (fileBlocksFor size) in
     let rest = every-append Without blocks (9 given (length map ≢ cellsOf (runOf file)) ∷ []) (later-without size file (fileBlocksFor size)) (refl, tt) in
-    (refl, (refl, (refl, (refl, (refl, (refl, (refl, (refl, (refl, rest)))))))))
+    (refl, (refl, (refl, (refl, (refl, (refl, (refl, (refl, rest))))))))
 
--- A refusal of the vectors call has no place, and is not 2.
+-- A refusal of the vectors call has no place.
 module _ (p r I : ℕ) (steps : Steps) (h : VectorsPromise p r I steps) where
   pub vectors-placeless : (n : ℕ) (place : Place) → saysVectors steps ≡ refused n place → place ≡ Nowhere
   vectors-placeless n place e = said-nowhere (vectorsTable p r I) (vectors-without p r I) n place (vectors-refused p r I steps h n place .0 e)
-
-  pub vectors-not-two : (place : Place) → saysVectors steps ≡ refused 2 place → ⊥
-  vectors-not-two place e = said-not-two (vectors-renders p r I) place (vectors-refused p r I steps h 2 place .0 e)
 
 -- Nor has one of the first-hit call, or of the listing: their source stands in no list.
 module _ (run : Run) (source : Source) (start : RunCell) where
@@ -109,30 +101,18 @@ module _ (run : Run) (source : Source) (start : RunCell) where
     pub first-hit-placeless : (n : ℕ) (place : Place) → saysFirstHit r ≡ refused n place → place ≡ Nowhere
     first-hit-placeless n place e = said-nowhere (firstHitTable run source start) (first-hit-without run source start) n place (first-hit-refused run source start r h n place .0 e)
 
-    pub first-hit-not-two : (place : Place) → saysFirstHit r ≡ refused 2 place → ⊥
-    first-hit-not-two place e = said-not-two (first-hit-renders run source start) place (first-hit-refused run source start r h 2 place .0 e)
-
   module _ (room : List ℕ) (r : Listing) (after : List ℕ) (h : ListingPromise run source start room r after) where
     pub listing-placeless : (n : ℕ) (place : Place) → saysListing r ≡ refused n place → place ≡ Nowhere
     listing-placeless n place e = said-nowhere (listingTable run source start room) (listing-without run source start room) n place (listing-refused run source start room r after h n place .0 e)
-
-    pub listing-not-two : (place : Place) → saysListing r ≡ refused 2 place → ⊥
-    listing-not-two place e = said-not-two (listing-renders run source start room) place (listing-refused run source start room r after h 2 place .0 e)
 
 -- Nor has one of saving or of reading a file.
 module _ (run : Run) (map room : List ℕ) (answer : Saved) (after : List ℕ) (h : SavingPromise run map room answer after) where
   pub saving-placeless : (n : ℕ) (place : Place) → saysSaving answer ≡ refused n place → place ≡ Nowhere
   saving-placeless n place e = said-nowhere (savingTable run map room) (saving-without run map room) n place (saving-refused run map room answer after h n place .0 e)
 
-  pub saving-not-two : (place : Place) → saysSaving answer ≡ refused 2 place → ⊥
-  saving-not-two place e = said-not-two (saving-renders run map room) place (saving-refused run map room answer after h 2 place .0 e)
-
 module _ (file map : List ℕ) (answer : Loaded) (after : List ℕ) (h : ReadingPromise file map answer after) where
   pub reading-placeless : (n : ℕ) (place : Place) → saysReading answer ≡ refused n place → place ≡ Nowhere
   reading-placeless n place e = said-nowhere (readingTable file map) (reading-without file map) n place (reading-refused file map answer after h n place .0 e)
-
-  pub reading-not-two : (place : Place) → saysReading answer ≡ refused 2 place → ⊥
-  reading-not-two place e = said-not-two (reading-renders file map) place (reading-refused file map answer after h 2 place .0 e)
 
 -- ---- calls with a list of sources
 
@@ -143,7 +123,7 @@ other count n a b = (a, b)
 run-placed : (count : ℕ) (run : Run) → Every (RightPlace count) (runTable run)
 run-placed count run =
     let row : (n : ℕ) → n ≢ 4 → n ≢ 7 → RightPlace count n Nowhere = other count in
-    (row 1 (λ e. omega arith) (λ e. omega arith), (row 16 (λ e. omega arith) (λ e. omega arith), (row 17 (λ e. omega arith) (λ e. omega arith), (row 18 (λ e. omega arith) (λ e. omega arith), (row 3 (λ e. omega arith) (λ e. omega arith), tt)))))
+    (row 1 (λ e. omega arith) (λ e. omega arith), (row 17 (λ e. omega arith) (λ e. omega arith), (row 18 (λ e. omega arith) (λ e. omega arith), (row 3 (λ e. omega arith) (λ e. omega arith), tt))))
 
 -- the sources, the first of them at place k
 sources-placed : (count k : ℕ) (entries : List Entry) → 1 ≤ k → k + length entries ≤ suc count → Every (RightPlace count) (sourcesTable k entries)
@@ -173,9 +153,6 @@ module _ (run : Run) (periods weights map : List ℕ) (answer : Added) (after : 
   pub map-place : (n : ℕ) (place : Place) → saysMap answer ≡ refused n place → RightPlace (length periods) n place
   map-place n place e = every-said (RightPlace (length periods)) (mapTable run periods weights map) (map-placed run periods weights map) n place (map-refused run periods weights map answer after h n place .0 e)
 
-  pub map-not-two : (place : Place) → saysMap answer ≡ refused 2 place → ⊥
-  map-not-two place e = said-not-two (map-renders run periods weights map) place (map-refused run periods weights map answer after h 2 place .0 e)
-
 -- what the table of a text says
 pub says-placed : (text : List ℕ) (o : Option Content) → Reads text o → (n : ℕ) (place : Place) → SaysOfText text n place → RightPlace (srcCount o) n place
 says-placed text o r n place (inl s) = every-said (RightPlace (srcCount o)) (11 given Reads text none ∷ []) (other (srcCount o) 11 (λ e. omega arith) (λ e. omega arith), tt) n place s
@@ -183,23 +160,12 @@ says-placed text none r n place (inr s) = absurd (r (s .0) (s .1))
 says-placed text (some content) r n place (inr s) =
     every-said (RightPlace (length (content .entries))) (textTable content) (text-placed content) n place (rw (spells-unique (s .1) r) at (s .2))
 
-says-not-two : (text : List ℕ) (place : Place) → SaysOfText text 2 place → ⊥
-says-not-two text place (inl (inl s)) = omega (arith, s .0)
-says-not-two text place (inl (inr s)) = s .1
-says-not-two text place (inr s) = said-not-two (text-renders (s .0)) place (s .2)
-
 -- The same of a text, whose `src` lines are counted.
 module _ (text : List ℕ) (input : Input) (h : TextPromise text input) where
   pub text-place : (n : ℕ) (place : Place) → saysText (input .answer) ≡ refused n place → RightPlace (srcCount (h .content)) n place
   text-place n place e = says-placed text (h .content) (h .reads) n place (text-refused text input h n place .0 e)
 
-  pub text-not-two : (place : Place) → saysText (input .answer) ≡ refused 2 place → ⊥
-  text-not-two place e = says-not-two text place (text-refused text input h 2 place .0 e)
-
 -- And of what is printed of it.
 module _ (text : List ℕ) (output : Output) (h : ReportPromise text output) where
   pub report-place : (n : ℕ) (place : Place) → printedBy output ≡ refusalReport n place → RightPlace (srcCount (h .content)) n place
   report-place n place e = says-placed text (h .content) (h .reads) n place (report-refused text output h n place .0 e)
-
-  pub report-not-two : (place : Place) → printedBy output ≡ refusalReport 2 place → ⊥
-  report-not-two place e = says-not-two text place (report-refused text output h 2 place .0 e)

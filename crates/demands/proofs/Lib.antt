@@ -1,8 +1,9 @@
--- The demands of document 00, over the promises alone: the files Demand*, NoSecondReply, SomeReply and Texts have the
+-- The demands of document 00, over the promises alone: the files Demand*, NoSecondReply, SomeReply, LineZero and Texts have the
 -- statements, the others what they rest on.
 pub mod Demand1
 pub mod Demand1Places
 pub mod Demand1Exports
+pub mod Demand1Given
 pub mod NoSecondReply
 pub mod SomeReply
 pub mod Demand2Vectors
@@ -14,6 +15,7 @@ pub mod Chains
 pub mod Cuts
 pub mod CutHits
 pub mod Demand3Listing
+pub mod LineZero
 pub mod CutMaps
 pub mod Demand3Adding
 pub mod Texts

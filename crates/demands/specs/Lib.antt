@@ -5,3 +5,4 @@ pub mod Listing
 pub mod Adding
 pub mod Texts
 pub mod Places
+pub mod Given

@@ -12,7 +12,7 @@ use Rattle.scope.proofs.Table.{at-most, equal, run-renders, period-renders}
 use Rattle.hits.specs.Promise.{firstHitTests, listingTests}
 use Rattle.hits.specs.Table.{firstHitTable, listingTable}
 
--- "First hit and listing: 1, 2, 3, 4, 8", with 16, 17, 18 for 2
+-- "First hit and listing: 1, 2, 3, 4, 8", with 17, 18 for 2
 pub first-hit-renders : (run : Run) (source : Source) (start : RunCell) → Renders (firstHitTests run source start) (firstHitTable run source start)
 unfolding firstHitTests sourceTests
 first-hit-renders run source start = run-renders run next period-renders (source .period) next one (at-most (cellsOf run) (start .0))

@@ -18,7 +18,7 @@ use Rattle.hits.specs.declared.FirstHit.the-variants.{At, Nothing, Refus
 use Rattle.hits.specs.declared.Listing.{Listing}
 use Rattle.hits.specs.declared.Listing.the-variants.{Done, More, Refused as Refused·listing}
 
--- "First hit and listing: 1, 2, 3, 4, 8", with 16, 17, 18 for 2 (E1). "8: starting cell not in the run".
+-- "First hit and listing: 1, 2, 3, 4, 8", with 17, 18 for 2 (E1, E2). "8: starting cell not in the run".
 unfoldable pub firstHitTests : Run → Source → RunCell → Tests
 firstHitTests run source start =
     runTests run andThen

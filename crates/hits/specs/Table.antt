@@ -9,7 +9,7 @@ use Rattle.scope.specs.declared.RunCell.{RunCell}
 use Rattle.scope.specs.Run.{cellsOf}
 use Rattle.scope.specs.Table.{Row, _given_, BadPeriod, runTable}
 
--- "First hit and listing: 1, 2, 3, 4, 8, 9 (no weight there)", with 16, 17, 18 for 2 (E1). A first-hit call has no room.
+-- "First hit and listing: 1, 2, 3, 4, 8, 9 (no weight there)", with 17, 18 for 2 (E1, E2). A first-hit call has no room.
 abbrev pub firstHitTable : Run → Source → RunCell → List Row
 firstHitTable run source start =
     runTable run ++

@@ -11,7 +11,7 @@ use Rattle.sources.proofs.Table.{sources-renders}
 use Rattle.map.specs.Promise.{mapTests}
 use Rattle.map.specs.Table.{mapTable}
 
--- "Map: 1, 2, 3, 10, then source by source 4 before 7, then 9", with 16, 17, 18 for 2
+-- "Map: 1, 2, 3, 10, then source by source 4 before 7, then 9", with 17, 18 for 2
 pub map-renders : (run : Run) (periods weights map : List ℕ) → Renders (mapTests ceiling run periods weights map) (mapTable run periods weights map)
 unfolding mapTests
 map-renders run periods weights map =

@@ -16,7 +16,7 @@ use Rattle.map.specs.Sum.{raised}
 use Rattle.map.specs.declared.Added.{Added}
 use Rattle.map.specs.declared.Added.the-variants.{Done, Refused}
 
--- "Map: 1, 2, 3, 10, then source by source 4 before 7, then 9", with 16, 17, 18 for 2 (E1).
+-- "Map: 1, 2, 3, 10, then source by source 4 before 7, then 9", with 17, 18 for 2 (E1, E2).
 -- "10: period and weight lists of unequal length", "9: map .. not of the exact length".
 unfoldable pub mapTests : ℕ → Run → List ℕ → List ℕ → List ℕ → Tests
 mapTests c run periods weights map =

@@ -9,7 +9,7 @@ use Rattle.scope.specs.Table.{Row, _given_, runTable}
 use Rattle.sources.specs.Entry.{entriesOf}
 use Rattle.sources.specs.Table.{sourcesTable}
 
--- "Map: 1, 2, 3, 10, then source by source 4 before 7, then 9", with 16, 17, 18 for 2 (E1).
+-- "Map: 1, 2, 3, 10, then source by source 4 before 7, then 9", with 17, 18 for 2 (E1, E2).
 abbrev pub mapTable : Run → (periods weights map : List ℕ) → List Row
 mapTable run periods weights map =
     runTable run ++

@@ -218,7 +218,7 @@ fn add_all(run: Run, periods: &[u32], weights: &[u32], map: &mut [u8])
 }
 
 // Public operation. Adds to every cell of a run's map the weights of all listed sources that hit it, up to the ceiling.
-// Refused, in this order: 1, 16, 17, 18, 3 for the run, 10 for lists of unequal length, 4 or 7 for the first source at fault, with its
+// Refused, in this order: 1, 17, 18, 3 for the run, 10 for lists of unequal length, 4 or 7 for the first source at fault, with its
 // place, 9 for a map not of the run's length. All of that is looked at before the first store.
 pub fn add_to_map(run: Run, periods: &[u32], weights: &[u32], map: &mut [u8]) -> Added
     ensures { λ r. ⌜ MapPromise run (now (periods .entry)) (now (weights .entry)) (now (map .entry)) r (now (map .exit)) ⌝ }

@@ -13,7 +13,7 @@ use Rattle.fileblocks.proofs.Table.{not-zero, not-sealed, file-block-renders}
 use Rattle.saved.specs.File.{headingBytes, fileBlocksFor, fileLength, bytesFor, fileBlockAt, runOf, savingTests, headingTests, laterFileBlocksTests, fileTests, readingTests}
 use Rattle.saved.specs.Table.{savingTable, BadHeading, laterFileBlocksTable, readingTable}
 
--- "Saving: 1, 2, 3, 9", with 16, 17, 18 for 2
+-- "Saving: 1, 2, 3, 9", with 17, 18 for 2
 pub saving-renders : (run : Run) (map room : List ℕ) → Renders (savingTests run map room) (savingTable run map room)
 unfolding savingTests
 saving-renders run map room =
@@ -31,7 +31,7 @@ later-file-blocks-render size file (suc k) =
     later-file-blocks-render size file k next file-block-renders (suc k) (size - contentBytes * k) (fileBlockAt file (suc k))
 
 -- "Reading: 13 for whole blocks, then block 0 for 14 and 15, then 1, 2, 3, 13 for the count, then the other blocks .., then 9",
--- with 16, 17, 18 for 2
+-- with 17, 18 for 2
 pub reading-renders : (file map : List ℕ) → Renders (readingTests file map) (readingTable file map)
 unfolding readingTests fileTests
 reading-renders file map =

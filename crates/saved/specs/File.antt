@@ -59,7 +59,7 @@ bytesIn file = firstJoined λ k. contents (fileBlockAt file (suc k))
 unfoldable pub mapOf : List ℕ → List ℕ
 mapOf file = take (cellsOf (runOf file)) (bytesIn file (fileBlocksFor (bytesFor (runOf file))))
 
--- "Saving: 1, 2, 3, 9", with 16, 17, 18 for 2 (E1). "9: .. map or file room not of the exact length".
+-- "Saving: 1, 2, 3, 9", with 17, 18 for 2 (E1, E2). "9: .. map or file room not of the exact length".
 unfoldable pub savingTests : Run → List ℕ → List ℕ → Tests
 savingTests run map file =
     runTests run andThen
@@ -79,7 +79,7 @@ laterFileBlocksTests size file zero = nothing
 laterFileBlocksTests size file (suc k) = laterFileBlocksTests size file k andThen fileBlockTests (suc k) (size - contentBytes * k) (fileBlockAt file (suc k))
 
 -- "Reading: 13 for whole blocks, then block 0 for 14 and 15, then 1, 2, 3, 13 for the count, then the other blocks",
--- with 16, 17, 18 for 2 (E1).
+-- with 17, 18 for 2 (E1, E2).
 unfoldable pub fileTests : List ℕ → Tests
 fileTests file =
     let run = runOf file in

@@ -11,7 +11,7 @@ use Rattle.fileblocks.specs.FileBlock.{fileBlockBytes, contentBytes, checkAt}
 use Rattle.fileblocks.specs.Table.{NotZero, BadCheck, fileBlockTable}
 use Rattle.saved.specs.File.{fileBlocksFor, fileLength, bytesFor, fileBlockAt, runOf}
 
--- "Saving: 1, 2, 3, 9", with 16, 17, 18 for 2 (E1). "9: .. map or file room not of the exact length".
+-- "Saving: 1, 2, 3, 9", with 17, 18 for 2 (E1, E2). "9: .. map or file room not of the exact length".
 abbrev pub savingTable : Run → (map room : List ℕ) → List Row
 savingTable run map room =
     runTable run ++
@@ -27,7 +27,7 @@ laterFileBlocksTable size file zero = []
 laterFileBlocksTable size file (suc k) = laterFileBlocksTable size file k ++ fileBlockTable (suc k) (size - contentBytes * k) (fileBlockAt file (suc k))
 
 -- "Reading: 13 for whole blocks, then block 0 for 14 and 15, then 1, 2, 3, 13 for the count, then the other blocks in order, 14
--- before 15 in each, then 9", with 16, 17, 18 for 2 (E1).
+-- before 15 in each, then 9", with 17, 18 for 2 (E1, E2).
 abbrev pub readingTable : (file map : List ℕ) → List Row
 readingTable file map =
     13 given ((length file % fileBlockBytes ≢ 0) ⊎ (length file ≡ 0)) ∷

@@ -90,7 +90,7 @@ fn write_cells(map: &[u8], room: &mut [u8])
 }
 
 // Public operation. Saves a run's map in a file room of the exact length: done, or refused with the room as it was.
-// Refused, in this order: 1, 16, 17, 18, 3 for the run, 9 for a map or a room not of the exact length. Every test comes before the first
+// Refused, in this order: 1, 17, 18, 3 for the run, 9 for a map or a room not of the exact length. Every test comes before the first
 // byte is written, and then every byte is.
 pub fn save(run: Run, map: &[u8], file: &mut [u8]) -> Saved
     ensures { λ r. ⌜ SavingPromise run (now (map .entry)) (now (file .entry)) r (now (file .exit)) ⌝ }
@@ -208,7 +208,7 @@ fn load(file: &[u8], map: &mut [u8])
 }
 
 // Public operation. Reads a file: its run, with a map of the exact length filled, or refused with the map as it was.
-// Refused, in this order: 13 for whole blocks, 14 and 15 for block 0, 1, 16, 17, 18, 3 for its run, 13 for the count, 14 and 15 for each
+// Refused, in this order: 13 for whole blocks, 14 and 15 for block 0, 1, 17, 18, 3 for its run, 13 for the count, 14 and 15 for each
 // other block, 9 for the map's length. Every test, of the last block too, comes before the first cell is filled.
 pub fn read(file: &[u8], map: &mut [u8]) -> Loaded
     ensures { λ r. ⌜ ReadingPromise (now (file .entry)) (now (map .entry)) r (now (map .exit)) ⌝ }

@@ -1,14 +1,15 @@
 -- How a call's complaint follows from its tests, taken one after the other, and what reply it makes. Assumes nothing.
 use Prim.Native.Nat.{ℕ, _≤_}
 use mathlib.Core.Path.{_≡_, refl, sym, ap, _∙_}
+use mathlib.Core.Logic.{inl, inr}
 use mathlib.Core.Bool.{Bool, true, false}
 use mathlib.Core.Option.{Option, some, none}
 use native.Mathlib.Omega.{arith}
 use lib.ListN.{getD}
 use mathlib.Core.List.{[], _∷_}
-use Rattle.scope.specs.Refusal.{Complaint, Tests, _when_, _andThen_, ofSource, nothing, complaint, number}
+use Rattle.scope.specs.Refusal.{Complaint, Tests, _when_, _andThen_, ofSource, nothing, complaint, number, Withdrawn}
 use Rattle.scope.specs.declared.Reason.{Reason}
-use Rattle.scope.specs.declared.Reason.the-variants.{Window, FirstLine, LineOrder, LastLine, Interval, Period, Remainder, WiderThanPeriod, Weight, Start, Room, Lists, Text, TooMany, FileBlocks, Check, Layout}
+use Rattle.scope.specs.declared.Reason.the-variants.{Window, LineOrder, LastLine, Interval, Period, Remainder, WiderThanPeriod, Weight, Start, Room, Lists, Text, TooMany, FileBlocks, Check, Layout}
 use Rattle.scope.specs.declared.Place.{Place}
 use Rattle.scope.specs.declared.Place.the-variants.{Nowhere, AtSource}
 use Rattle.scope.specs.Reply.{Said, refused, answered, reply, stored}
@@ -18,16 +19,15 @@ use Rattle.scope.specs.declared.Verdict.the-variants.{Fine, Refused}
 
 -- ---- "The refusal numbers": a number tells its reason
 
--- the reason with a number; for a number that no reason has, as 0 and 2, the first
+-- the reason with a number; for a number that no reason has, as 0, 2 and 16, the first
 abbrev reasonOf : ℕ → Reason
 reasonOf n =
     getD
-    (Window ∷ Window ∷ Window ∷ Interval ∷ Period ∷ Remainder ∷ WiderThanPeriod ∷ Weight ∷ Start ∷ Room ∷ Lists ∷ Text ∷ TooMany ∷ FileBlocks ∷ Check ∷ Layout ∷ FirstLine ∷ LineOrder ∷ LastLine ∷ [])
+    (Window ∷ Window ∷ Window ∷ Interval ∷ Period ∷ Remainder ∷ WiderThanPeriod ∷ Weight ∷ Start ∷ Room ∷ Lists ∷ Text ∷ TooMany ∷ FileBlocks ∷ Check ∷ Layout ∷ Window ∷ LineOrder ∷ LastLine ∷ [])
     n Window
 
 told : (reason : Reason) → reasonOf (number reason) ≡ reason
 told Window = refl
-told FirstLine = refl
 told LineOrder = refl
 told LastLine = refl
 told Interval = refl
@@ -56,9 +56,10 @@ no-number n e other reason is = other (ap number (sym (ap reasonOf is ∙ e) ∙
 pub number-some : (reason : Reason) → 1 ≤ number reason
 number-some reason = let none : number reason ≡ 0 → ⊥ = no-number 0 refl (λ e. omega arith) reason in omega (arith, none)
 
--- "2, which is no longer given"
-pub number-not-two : (reason : Reason) → number reason ≡ 2 → ⊥
-number-not-two = no-number 2 refl (λ e. omega arith)
+-- and none is withdrawn
+pub number-not-withdrawn : (n : ℕ) → Withdrawn n → (reason : Reason) → number reason ≡ n → ⊥
+number-not-withdrawn n (inl two) reason e = no-number 2 refl (λ e. omega arith) reason (e ∙ two)
+number-not-withdrawn n (inr sixteen) reason e = no-number 16 refl (λ e. omega arith) reason (e ∙ sixteen)
 
 -- ---- the complaint
 

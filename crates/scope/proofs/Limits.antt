@@ -1,6 +1,5 @@
 -- The tests of 01's table against the table itself: a run passes its tests exactly if it is `ValidRun`, and a complaint is
--- the first broken row of the call's list of rows. Then the sizes that the table allows.
--- The lower limit of the first line is read and made in `valid-run` and `valid-run-passes` alone. Assumes nothing.
+-- the first broken row of the call's list of rows. Then the sizes that the table allows. Assumes nothing.
 use Prim.Native.Nat.{ℕ, _+_, _/_, _%_, _^_, _≤_, _<_}
 use native.Mathlib.Nat.{mul-le-mul, le-mul-of-pos-right}
 use native.Mathlib.Omega.{arith}
@@ -84,8 +83,7 @@ pub valid-run : {run : Run} → Passes (runTests run) → run .interval ≤ 4294
 unfolding runTests lineTests
 valid-run {run} p fits =
     let w = valid-window (passes-first (passes-first p)) in
-    let some-line = eqb-false (run .first) 0 (passes-when (passes-first (passes-first (passes-then (passes-first p))))) in
-    let ordered = ltb-false (run .last) (run .first) (passes-when (passes-then (passes-first (passes-then (passes-first p))))) in
+    let ordered = ltb-false (run .last) (run .first) (passes-when (passes-first (passes-then (passes-first p)))) in
     let ends = ltb-false 16777216 (run .last) (passes-when (passes-then (passes-then (passes-first p)))) in
     let ticks = eqb-false (run .interval) 0 (passes-when (passes-then p)) in
     omega arith
@@ -96,7 +94,7 @@ valid-run-passes {run} v =
     both
     (both
     (valid-window-passes (run-window v))
-    (both (both (sound (ne-eqb (run .first) 0 (omega (arith, v .begins)))) (sound (le-ltb _ _ (v .ordered)))) (sound (le-ltb _ _ (v .ends)))))
+    (both (sound (le-ltb _ _ (v .ordered))) (sound (le-ltb _ _ (v .ends)))))
     (sound (ne-eqb (run .interval) 0 (omega arith)))
 
 -- ---- a call's rows

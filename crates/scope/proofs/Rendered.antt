@@ -6,12 +6,12 @@ use mathlib.Core.Bool.{Bool, true, false}
 use mathlib.Core.List.{List, [], _∷_, _++_}
 use mathlib.Core.Option.{Option, some, none}
 use native.Mathlib.Omega.{arith}
-use Rattle.scope.specs.Refusal.{Complaint, Tests, _when_, _andThen_, ofSource, nothing, orElse, complaint, number}
+use Rattle.scope.specs.Refusal.{Complaint, Tests, _when_, _andThen_, ofSource, nothing, orElse, complaint, number, Withdrawn}
 use Rattle.scope.specs.declared.Reason.{Reason}
 use Rattle.scope.specs.declared.Place.{Place}
 use Rattle.scope.specs.declared.Place.the-variants.{Nowhere, AtSource}
 use Rattle.scope.specs.Reply.{Said, refused, reply, stored}
-use Rattle.scope.proofs.Judged.{Fails, Passes, broken, sound, first, then, both, source-fails, source-passes, no-tests, refuse-reply, refuse-stored, refused-same, number-some, number-not-two}
+use Rattle.scope.proofs.Judged.{Fails, Passes, broken, sound, first, then, both, source-fails, source-passes, no-tests, refuse-reply, refuse-stored, refused-same, number-some, number-not-withdrawn}
 use Rattle.scope.proofs.Limits.{passes-first, passes-then, passes-source}
 use Rattle.scope.proofs.Hits.{hit-or-miss}
 use Rattle.scope.specs.Table.{Row, _given_, Says, Silent}
@@ -136,12 +136,13 @@ every-said P [] h n place s = absurd s
 every-said P (row ∷ rows) h n place (inl k) = subst (λ m. P m place) (k .0) (subst (λ q. P (row .number) q) (k .1) (h .0))
 every-said P (row ∷ rows) h n place (inr k) = every-said P rows (h .1) n place (k .1)
 
--- no number that a table says is 0, and none is 2
+-- no number that a table says is 0
 pub said-some : {tests : Tests} {table : List Row} → Renders tests table → (n : ℕ) (place : Place) → Says table n place → 1 ≤ n
 said-some rows n place s = let f = rows .fails n place .1 s in omega (arith, number-some (f .reason), f .numbered)
 
-pub said-not-two : {tests : Tests} {table : List Row} → Renders tests table → (place : Place) → Says table 2 place → ⊥
-said-not-two rows place s = let f = rows .fails 2 place .1 s in number-not-two (f .reason) (f .numbered)
+-- and none is withdrawn
+pub said-not-withdrawn : {tests : Tests} {table : List Row} → Renders tests table → (n : ℕ) → Withdrawn n → (place : Place) → Says table n place → ⊥
+said-not-withdrawn rows n gone place s = let f = rows .fails n place .1 s in number-not-withdrawn n gone (f .reason) (f .numbered)
 
 infixl 40 _next_
 -- the tests of one table, then those of another

@@ -1,7 +1,7 @@
 -- The tests of runs and periods say what their rows of the table say; and what the tests of numbers say. Assumes nothing.
 use Prim.Native.Nat.{ℕ, _%_, _≤_, _<_}
 use mathlib.Core.Path.{_≡_, ap}
-use mathlib.Core.Logic.{_↔_, _⊎_, _≢_}
+use mathlib.Core.Logic.{_↔_, _≢_}
 use mathlib.Core.Bool.{true, not}
 use mathlib.Core.List.{[], _∷_}
 use lib.Dec.{ltb, leb, eqb}
@@ -31,9 +31,9 @@ pub window-renders : (window : ℕ) → Renders (windowTests window) (1 given Ba
 unfolding windowTests
 window-renders window = either (either (one (equal (window % 2) 1)) (one (below window 2))) (one (below 4096 window))
 
-lines-renders : (first last : ℕ) → Renders (lineTests first last) (16 given (first ≡ 0) ∷ 17 given (last < first) ∷ 18 given (16777216 < last) ∷ [])
+lines-renders : (first last : ℕ) → Renders (lineTests first last) (17 given (last < first) ∷ 18 given (16777216 < last) ∷ [])
 unfolding lineTests
-lines-renders first last = one (equal first 0) next one (below last first) next one (below 16777216 last)
+lines-renders first last = one (below last first) next one (below 16777216 last)
 
 pub run-renders : (run : Run) → Renders (runTests run) (runTable run)
 unfolding runTests

@@ -1,23 +1,23 @@
 -- Document 01, "The refusal numbers", and request E1: why a call is refused, and where; and the tests that runs and sources pass in
 -- every call.
 use Prim.Native.Nat.{ℕ, _%_}
+use mathlib.Core.Path.{_≡_}
+use mathlib.Core.Logic.{_⊎_}
 use mathlib.Core.Bool.{Bool, cond}
 use mathlib.Core.Option.{Option, some, none}
 use lib.Dec.{ltb, eqb}
 use Rattle.scope.specs.declared.Run.{Run}
 use Rattle.scope.specs.declared.Source.{Source}
 use Rattle.scope.specs.declared.Reason.{Reason}
-use Rattle.scope.specs.declared.Reason.the-variants.{Window, FirstLine, LineOrder, LastLine, Interval, Period, Remainder, WiderThanPeriod, Weight, Start, Room, Lists, Text, TooMany, FileBlocks, Check, Layout}
+use Rattle.scope.specs.declared.Reason.the-variants.{Window, LineOrder, LastLine, Interval, Period, Remainder, WiderThanPeriod, Weight, Start, Room, Lists, Text, TooMany, FileBlocks, Check, Layout}
 use Rattle.scope.specs.declared.Place.{Place}
 use Rattle.scope.specs.declared.Place.the-variants.{Nowhere, AtSource}
 
--- The number of each reason. In quotes above it: when it is given, from 01's table, and for 16, 17 and 18 from request E1: "Split it:
--- first line 0, last line before the first, last line above the limit"; "in the place of 2, which is no longer given".
+-- The number of each reason. In quotes above it: when it is given, from 01's table, and for 17 and 18 from request E1: "Split it: ..
+-- last line before the first, last line above the limit"; "in the place of 2".
 abbrev pub number : Reason → ℕ
 -- "window odd, below 2 or above 4,096"
 number Window = 1
--- "first line 0"
-number FirstLine = 16
 -- "last line before the first"
 number LineOrder = 17
 -- "last line above the limit"
@@ -48,6 +48,10 @@ number FileBlocks = 13
 number Check = 14
 -- "saved file: version, spare byte or filling not as laid down"
 number Layout = 15
+
+-- "2, which is no longer given" (E1); "16 is shown never to occur and is taken out" (E2).
+abbrev pub Withdrawn : ℕ → Type 0
+Withdrawn n = (n ≡ 2) ⊎ (n ≡ 16)
 
 -- "a refusal carries the reason and, where it concerns a source, that place" (E1).
 pub record Complaint : Type 0 where
@@ -91,14 +95,13 @@ windowTests window =
     Window when ltb window 2 andThen
     Window when ltb 4096 window
 
--- "16, 17, 18 in the order named, in the place of 2" (E1): "first ≥ 1, last ≥ first, last ≤ 16,777,216".
+-- "17, 18 in the order named, in the place of 2" (E1): "last ≥ first, last ≤ 16,777,216". "A first line of 0 is accepted everywhere" (E2).
 unfoldable pub lineTests : ℕ → ℕ → Tests
 lineTests first last =
-    FirstLine when eqb first 0 andThen
     LineOrder when ltb last first andThen
     LastLine when ltb 16777216 last
 
--- "1, 2, 3", with 16, 17, 18 for 2 (E1): a run's tests. "3: interval 0".
+-- "1, 2, 3", with 17, 18 for 2 (E1, E2): a run's tests. "3: interval 0".
 unfoldable pub runTests : Run → Tests
 runTests run =
     windowTests (run .window) andThen

@@ -14,12 +14,12 @@ use Rattle.scope.specs.declared.BlockCell.{BlockCell}
 abbrev pub runWith : (window interval first last : ℕ) → Run
 runWith window interval first last = record { window = window; interval = interval; first = first; last = last }
 
--- The table of ranges: "window I: even, 2 to 4,096; interval T: 1 to 4,294,967,295; lines: first ≥ 1, last ≥ first, last ≤ 16,777,216".
+-- The table of ranges: "window I: even, 2 to 4,096; interval T: 1 to 4,294,967,295; lines: .. last ≥ first, last ≤ 16,777,216", and
+-- "Lines run from 0" (E2): of the first line nothing else is asked.
 pub record ValidRun (run : Run) : Type 0 where
   pub even : run .window % 2 ≡ 0
   pub narrow : 2 ≤ run .window
   pub wide : run .window ≤ 4096
-  pub begins : 1 ≤ run .first
   pub ordered : run .first ≤ run .last
   pub ends : run .last ≤ 16777216
   pub ticks : 1 ≤ run .interval

@@ -53,12 +53,11 @@ BadWindow window = ((window % 2 ≡ 1) ⊎ (window < 2)) ⊎ (4096 < window)
 abbrev pub BadPeriod : ℕ → Type 0
 BadPeriod period = (period ≡ 0) ⊎ (2147483647 < period)
 
--- The rows of a run, in every call that has one: "1, 2, 3", and "16, 17, 18 in the order named, in the place of 2" (E1): "first
--- line 0, last line before the first, last line above the limit". "3: interval 0".
+-- The rows of a run, in every call that has one: "1, 2, 3", and "17, 18 in the order named, in the place of 2" (E1): "last line
+-- before the first, last line above the limit"; "16 is .. taken out" (E2). "3: interval 0".
 abbrev pub runTable : Run → List Row
 runTable run =
     1 given BadWindow (run .window) ∷
-    16 given (run .first ≡ 0) ∷
     17 given (run .last < run .first) ∷
     18 given (16777216 < run .last) ∷
     3 given (run .interval ≡ 0) ∷ []

@@ -9,7 +9,7 @@ ghost use Rattle.scope.specs.Refusal.{number, complaint, windowTests, li
 // What a weight, and a cell of a map, is at most: `ceiling` of the specs. A cell is as wide as this number.
 pub const CEILING: u8 = 255;
 
-// A run: the window's width and the interval in ticks, the first and the last line.
+// A run: the window's width and the interval in ticks, the first and the last line. Lines run from 0.
 pub struct Run {
     pub window: u32,
     pub interval: u32,
@@ -32,8 +32,6 @@ pub struct BlockCell(pub u64);
 pub enum Reason {
     // The window is odd, below 2 or above 4,096.
     Window,
-    // The first line is 0.
-    FirstLine,
     // The last line is before the first.
     LineOrder,
     // The last line is above 16,777,216.
@@ -88,7 +86,6 @@ pub fn number_of(reason: Reason) -> u8
 {
     match reason {
         Reason::Window => 1,
-        Reason::FirstLine => 16,
         Reason::LineOrder => 17,
         Reason::LastLine => 18,
         Reason::Interval => 3,
@@ -143,13 +140,10 @@ pub fn judge_window(window: u32) -> Verdict
     Verdict::Fine
 }
 
-// What the table says of a first and a last line: the first line, then the order of the two, then the last line.
+// What the table says of a first and a last line: of the order of the two, then of the last line.
 fn judge_lines(first: u32, last: u32) -> Verdict
     ensures { λ r. ⌜ r ≡ verdict (complaint (lineTests first last)) ⌝ }
 {
-    if first == 0 {
-        return Verdict::Refused(Reason::FirstLine, Place::Nowhere);
-    }
     if last < first {
         return Verdict::Refused(Reason::LineOrder, Place::Nowhere);
     }

@@ -34,7 +34,7 @@ mostSources = 64
 abbrev pub mostCells : ℕ
 mostCells = 65536
 
--- "Text: 11, 1, 2, 3, 12, then each source 4 before 7", after 11, with 16, 17, 18 for 2 (E1).
+-- "Text: 11, 1, 2, 3, 12, then each source 4 before 7", after 11, with 17, 18 for 2 (E1, E2).
 unfoldable pub textTests : Content → Tests
 textTests content =
     runTests (content .run) andThen

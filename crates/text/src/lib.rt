@@ -134,7 +134,7 @@ fn refuse(reason: Reason, place: Place) -> Input
 
 // Public operation. The run and the sources that a text has, or the refusal.
 // All lines are read before the first number is judged: what is not of the form comes before what is not within the limits.
-// Refused, in this order: 11 for the form, 1, 16, 17, 18, 3 for the run, 12 for too many sources or cells, 4 or 7 for the first source
+// Refused, in this order: 11 for the form, 1, 17, 18, 3 for the run, 12 for too many sources or cells, 4 or 7 for the first source
 // at fault, with its place.
 pub fn read_text(text: &[u8]) -> Input
     ensures { λ r. ⌜ TextPromise (now (text .entry)) r ⌝ }

@@ -30,8 +30,8 @@ fn saves_as(refusal: Refusal, run: Run, map: &[u8], file: &mut [u8], expected: &
     says(saved::save(run, map, file), refusal) && numbers::same_bytes(file, expected)
 }
 
-// Whether saving a map of 20 cells is refused so and leaves the room.
-pub fn save_refused(refusal: Refusal, run: Run) -> bool {
+// Whether saving a map of 20 cells is refused so and leaves the room, or for no refusal makes of it the file as laid down.
+pub fn save_says(refusal: Refusal, run: Run) -> bool {
     let map = [1u8; 20];
     let mut file = [170u8; 1024];
     let mut expected = [170u8; 1024];

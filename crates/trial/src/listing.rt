@@ -69,13 +69,22 @@ fn first_accepted(reply: FirstHit) -> bool {
     }
 }
 
-// Whether the first hit of a source from cell 0 on is refused so, or for no refusal is not.
-pub fn first_says(refusal: Refusal, run: Run, period: u32) -> bool {
-    let reply = hits::first_hit(run, Source { period }, RunCell(0));
+// Whether the first hit of a source from a cell on is refused so, or for no refusal is not.
+pub fn first_says(refusal: Refusal, run: Run, period: u32, start: u64) -> bool {
+    let reply = hits::first_hit(run, Source { period }, RunCell(start));
     if refusal.number == 0 {
         return first_accepted(reply);
     }
     first_refused(reply, refusal)
+}
+
+// Whether the first hit from a cell on is that cell.
+pub fn first_at(run: Run, period: u32, start: u64) -> bool {
+    match hits::first_hit(run, Source { period }, RunCell(start)) {
+        FirstHit::At(cell) => cell.0 == start,
+        FirstHit::Nothing => false,
+        FirstHit::Refused(_, _) => false,
+    }
 }
 
 // Whether the first hit of a case, with a fault here and there, is as it is to be. Of a run with more than 1,024 cells only that
@@ -226,6 +235,17 @@ fn refused_in(refusal: Refusal, run: Run, period: u32, start: u64, room: &mut [u
             && numbers::same_longs(room, &before[0..all]),
         Listing::Done(_) => false,
         Listing::More(_, _) => false,
+    }
+}
+
+// Whether a listing from a cell on, with room for two hits, is that cell alone.
+pub fn lists_alone(run: Run, period: u32, start: u64) -> bool {
+    let mut room = [NO_CELL; 2];
+    let expected = [start, NO_CELL];
+    match hits::list_hits(run, Source { period }, RunCell(start), &mut room) {
+        Listing::Done(count) => count == 1 && numbers::same_longs(&room, &expected),
+        Listing::More(_, _) => false,
+        Listing::Refused(_, _) => false,
     }
 }
 

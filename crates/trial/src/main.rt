@@ -1,7 +1,7 @@
-// The test program: 01's bench figures without a star, refusals with two faults at a time, and random small runs, with a fault here
-// and there and two at once, through every operation, against a walk over all cells, 01's layout of a file and the table of refusals.
-// Each line that it prints says how many cases of a kind were tried, and how many of them were bad. Every function is proved
-// safe and ending; that none is bad is what the stored output holds the program to.
+// The test program: 01's bench figures without a star, examples from line 0, refusals with two faults at a time, and random small
+// runs, with a fault here and there and two at once, through every operation, against a walk over all cells, 01's layout of a file and
+// the table of refusals. Each line that it prints says how many cases of a kind were tried, and how many of them were bad. Every
+// function is proved safe and ending; that none is bad is what the stored output holds the program to.
 mod figures;
 mod files;
 mod listing;
@@ -43,6 +43,7 @@ fn try_hits(ledger: &mut [u64], case: Case, state: u64) {
     );
     tally::count(ledger, tally::LISTING, listing::listing_agrees(case, state));
     tally::count(ledger, tally::BLOCK, block);
+    tally::count_if(ledger, run.first == 0, tally::RUNS_FROM_ZERO, block);
     count_kinds(
         ledger,
         run.window,
@@ -77,10 +78,13 @@ fn try_all(ledger: &mut [u64]) {
     }
 }
 
-// Tries the bench figures, refusals with two faults at a time, and texts at the length limit.
+// Tries the bench figures, examples from line 0, the last cell there is, refusals with two faults at a time, and texts at the length
+// limit.
 fn try_figures(ledger: &mut [u64]) {
     tally::count(ledger, tally::WIDE, figures::wide_is_refused());
     figures::try_last(ledger);
+    figures::try_zero(ledger);
+    figures::try_last_cell(ledger);
     figures::try_limits(ledger);
     figures::try_places(ledger);
     texts::try_long(ledger);
@@ -94,16 +98,26 @@ fn print_figures(ledger: &[u64]) {
         tally::LAST,
         b"last line 16777216 accepted, 16777217 refused 18",
     );
+    tally::print(
+        ledger,
+        tally::ZERO_EXAMPLES,
+        b"run 4 10 0 5 with sources 7 60, 3 200, and run 2 1 0 0, reported",
+    );
+    tally::print(
+        ledger,
+        tally::ZERO_FILE,
+        b"file with first line 0 read, and written again",
+    );
+    tally::print(
+        ledger,
+        tally::LAST_CELL,
+        b"window 4096, lines 0 to 16777216: cell 68719480831 the last hit, one more refused 8",
+    );
     tally::print(ledger, tally::LONG_TEXTS, b"texts of 4096 and 4097 bytes");
 }
 
 // Prints what was counted of refusals with two faults at a time.
 fn print_refusals(ledger: &[u64]) {
-    tally::print(
-        ledger,
-        tally::FIRST_LINE,
-        b"run 4 0 0 16777217 refused 16 by every call",
-    );
     tally::print(
         ledger,
         tally::LINE_ORDER,
@@ -117,7 +131,7 @@ fn print_refusals(ledger: &[u64]) {
     tally::print(
         ledger,
         tally::LAST_LINE,
-        b"run 4 0 1 16777217 refused 18 by every call",
+        b"run 4 0 0 16777217 refused 18 by every call",
     );
     tally::print(
         ledger,
@@ -128,11 +142,6 @@ fn print_refusals(ledger: &[u64]) {
         ledger,
         tally::MAP_SOURCE,
         b"map a cell short with weights 60, 256 refused 7 source 2",
-    );
-    tally::print(
-        ledger,
-        tally::FILE_LINE,
-        b"file with first line 1 accepted, 0 refused 16",
     );
 }
 
@@ -163,6 +172,7 @@ fn print_kinds(ledger: &[u64]) {
     tally::print(ledger, tally::NO_REMAINDER, b"runs with r = 0");
     tally::print(ledger, tally::SHORT, b"runs with p < I");
     tally::print(ledger, tally::EQUAL, b"runs with p = I");
+    tally::print(ledger, tally::RUNS_FROM_ZERO, b"runs from line 0");
     tally::print(
         ledger,
         tally::TWO_LIMITS,

@@ -113,12 +113,12 @@ fn text_of(
     text_is(ledger, run, periods, weights, state >> 32)
 }
 
-// A run of 65,536 cells or just more, or as it was.
+// A run from line 0 of 65,536 cells or just more, or the run as it was.
 fn sized_run(run: Run, state: u64) -> Run {
     let more = numbers::low32(state >> 4) % 2;
     let last = match state % 16 {
-        0 => numbers::add32(32768, more),
-        1 => numbers::add32(16, more),
+        0 => numbers::add32(32767, more),
+        1 => numbers::add32(15, more),
         _ => run.last,
     };
     Run {
@@ -128,7 +128,7 @@ fn sized_run(run: Run, state: u64) -> Run {
             _ => run.window,
         },
         interval: run.interval,
-        first: if state % 16 < 2 { 1 } else { run.first },
+        first: if state % 16 < 2 { 0 } else { run.first },
         last,
     }
 }

@@ -1,6 +1,7 @@
 // Random small runs and sources. They are drawn so that each kind of source comes often: a period below the window, equal to
-// it and above it, a remainder of 0, a large common factor of the period and the interval. Then a number here and there is made one
-// at which the table of refusals changes, so that faults come, and two at once: of both lines, and of sources in one list too.
+// it and above it, a remainder of 0, a large common factor of the period and the interval; and runs from line 0. Then a number here and
+// there is made one at which the table of refusals changes, so that faults come, and two at once: of both lines, and of sources in one
+// list too.
 use crate::numbers;
 use crate::numbers::below;
 use crate::numbers::up_to;
@@ -36,6 +37,14 @@ fn window(state: u64) -> u32 {
     }
 }
 
+// A first line: 0 one time in three, else up to 60.
+fn first_line(state: u64) -> u32 {
+    match state % 3 {
+        0 => 0,
+        _ => below(state, 61),
+    }
+}
+
 // A run of at most 12 lines, and a period that its interval goes with.
 pub struct Case {
     pub run: Run,
@@ -49,7 +58,7 @@ pub fn draw_case(state: u64) -> Case {
     let window = window(a >> 9);
     let factor = up_to(b, 24);
     let period = period(b >> 9, window, factor);
-    let first = up_to(a, 60);
+    let first = first_line(a);
     Case {
         run: Run {
             window,
@@ -90,17 +99,17 @@ pub fn maybe(number: u32, state: u64, seldom: u32) -> u32 {
 // A number at which a test of the lines changes.
 fn line_edge(state: u64) -> u32 {
     match state % 8 {
-        0 | 1 => 0,
-        2 => 1,
-        3 => 16777216,
-        4 => 16777217,
-        5 => 16777218,
+        0 => 0,
+        1 => 1,
+        2 => 16777216,
+        3 => 16777217,
+        4 | 5 => 16777218,
         6 => 16777219,
         _ => 4294967295,
     }
 }
 
-// A run; or, one time in four, with such a first and such a last line, so that two of their limits are often broken at once.
+// A run; or, one time in four, with such a first and such a last line, so that both of their limits are often broken at once.
 pub fn spoilt_lines(run: Run, state: u64) -> Run {
     if below(state, 4) != 0 {
         return run;

@@ -160,18 +160,17 @@ pub fn judge_window(window: u32) -> Refusal {
     when(window % 2 == 1 || window == 0 || 4096 < window, 1)
 }
 
-// 16, 17 and 18: the first line 0, the last line before the first, the last line above 16,777,216.
+// 17 and 18: the last line before the first, the last line above 16,777,216.
 fn judge_lines(first: u32, last: u32) -> Refusal {
-    let later = first_of(when(last < first, 17), when(16777216 < last, 18));
-    first_of(when(first == 0, 16), later)
+    first_of(when(last < first, 17), when(16777216 < last, 18))
 }
 
-// Whether a run breaks two line limits: never both of the first two, and never all three.
+// Whether a run breaks both line limits.
 pub fn breaks_two(run: Run) -> bool {
-    16777216 < run.last && (run.first == 0 || run.last < run.first)
+    16777216 < run.last && run.last < run.first
 }
 
-// 1, 16, 17, 18 and 3: the window, the line limits, the interval.
+// 1, 17, 18 and 3: the window, the line limits, the interval.
 pub fn judge_run(run: Run) -> Refusal {
     let later = first_of(judge_lines(run.first, run.last), when(run.interval == 0, 3));
     first_of(judge_window(run.window), later)

@@ -20,7 +20,6 @@ fn number_of(reason: Reason) -> u8 {
         Reason::FileBlocks => 13,
         Reason::Check => 14,
         Reason::Layout => 15,
-        Reason::FirstLine => 16,
         Reason::LineOrder => 17,
         Reason::LastLine => 18,
     }

@@ -38,7 +38,7 @@ pub const LAST: usize = 14;
 
 pub const LONG_TEXTS: usize = 15;
 
-pub const FIRST_LINE: usize = 16;
+pub const ZERO_EXAMPLES: usize = 16;
 
 pub const LINE_ORDER: usize = 17;
 
@@ -50,11 +50,15 @@ pub const TEXT_SOURCE: usize = 20;
 
 pub const MAP_SOURCE: usize = 21;
 
-pub const FILE_LINE: usize = 22;
+pub const ZERO_FILE: usize = 22;
 
 pub const TWO_LIMITS: usize = 23;
 
 pub const TWO_SOURCES: usize = 24;
+
+pub const RUNS_FROM_ZERO: usize = 25;
+
+pub const LAST_CELL: usize = 26;
 
 // A list of counts, all 0.
 pub fn ledger() -> [u64; 64] {
@@ -85,10 +89,10 @@ pub fn count_if(ledger: &mut [u64], belongs: bool, line: usize, fine: bool) {
     }
 }
 
-// Counts a call whose run breaks two line limits, if it is refused for one.
+// Counts a call whose run breaks both line limits, if it is refused for one.
 pub fn count_limits(ledger: &mut [u64], run: Run, refusal: Refusal, fine: bool) {
     let two = reference::breaks_two(run);
-    count_if(ledger, two && 16 <= refusal.number, TWO_LIMITS, fine);
+    count_if(ledger, two && 17 <= refusal.number, TWO_LIMITS, fine);
 }
 
 // Counts a call with two or more sources at fault, if it is refused for one.

@@ -24,7 +24,7 @@ use Rattle.walk.specs.Inner.{Short, GoesBy, Leads, Stands, Begun, Begins
 use Rattle.search.specs.declared.Point.{Point}
 use Rattle.search.specs.declared.Found.the-variants.{Nothing}
 use Rattle.search.specs.Inner.{PointOf, Enters, Sought}
-use Rattle.search.proofs.Cells.{hit-point, point-hit, point-low, sought-cell, sought-none}
+use Rattle.search.proofs.Cells.{inside-cells, hit-point, point-hit, point-low, sought-cell, sought-none}
 use Rattle.walk.proofs.Walks.{first-point}
 
 -- ---- the first hit of a line
@@ -76,10 +76,11 @@ module _ {run : Run} (v : ValidRun run) {source : Source} (s : ValidSource sourc
       record {
         first = first;
         stands = λ l. record { hit = first .hit l; leftmost = omega (arith, h .nearer); offset = rw distance is };
+        none = λ past. absurd (omega (arith, inside-cells (to .line - run .first) v (h .first .inside) (omega (arith, h .moves, h .inside, line))));
       }
 
-  pub begun-none : {offset : ℤ} → Sought (source .period) (run .interval % source .period) (run .window) (run .last) from Nothing → Begun run source (record { offset = offset; cell = record { 0 = cellsOf run } })
-  begun-none h = record { first = rw none-before at (sought-none v s o h); stands = λ l. absurd (omega arith) }
+  pub begun-none : {offset : ℤ} → offset ≡ pos 0 → Sought (source .period) (run .interval % source .period) (run .window) (run .last) from Nothing → Begun run source (record { offset = offset; cell = record { 0 = cellsOf run } })
+  begun-none zero h = record { first = rw none-before at (sought-none v s o h); stands = λ l. absurd (omega arith); none = λ past. zero }
 
 -- ---- the vectors
 

@@ -115,10 +115,11 @@ pub record NextLine (run : Run) (source : Source) (at to : LineHit) : Type 0 whe
 abbrev pub Walks : Walk → LineHit → LineHit → Type 0
 Walks walk at to = (run : Run) (source : Source) → ValidRun run → ValidSource source → Leads run source walk → Stands run source at → NextLine run source at to
 
--- It is the run's first hit, or its cell is the number of cells if there is none.
+-- It is the run's first hit; if there is none, its cell is the number of cells, and its offset 0.
 pub record Begun (run : Run) (source : Source) (at : LineHit) : Type 0 where
   pub first : FirstFrom run source 0 (at .cell .0)
   pub stands : at .cell .0 < cellsOf run → Stands run source at
+  pub none : cellsOf run ≤ at .cell .0 → at .offset ≡ pos 0
 
 -- It is on the cell's line, and where the cell is hit it is the first hit there.
 pub record Begins (run : Run) (source : Source) (cell : ℕ) (at : LineHit) : Type 0 where

@@ -60,10 +60,9 @@ fn judge_sources(sources: &[(i128, i128)]) -> Reply<()> {
 }
 
 impl Run {
-    /// 1, then the line limits: "first line 0, last line before the first, last line above the limit"; then 3.
+    /// 1, then the line limits: "last line before the first, last line above the limit" (E1); "lines run from 0" (E2); then 3.
     fn judge(&self) -> Reply<()> {
         judge_window(self.window)?;
-        refuse_if(self.first == 0, 16)?;
         refuse_if(self.last < self.first, 17)?;
         refuse_if(self.last > 16_777_216, 18)?;
         refuse_if(self.interval == 0, 3)

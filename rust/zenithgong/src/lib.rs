@@ -11,7 +11,7 @@ use declarations::{
 };
 use std::fmt;
 
-/// A run: the window's width and the interval in ticks, the first and the last line.
+/// A run: the window's width and the interval in ticks, the first and the last line. Lines run from 0.
 #[derive(Clone, Copy, Debug, PartialEq, Eq)]
 pub struct Run {
     pub window: u32,
@@ -82,7 +82,6 @@ fn reason(number: u8) -> &'static str {
         13 => "the file has no whole number of blocks, none, or not as many as its run needs",
         14 => "a block of the file has a wrong number or check",
         15 => "a version, spare byte or filling of the file is not as laid down",
-        16 => "the first line is 0",
         17 => "the last line is before the first",
         18 => "the last line is above 16,777,216",
         _ => "unknown reason",

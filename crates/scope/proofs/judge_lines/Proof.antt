@@ -1,5 +1,5 @@
 -- `scope::judge_lines` meets its contract: each return is the first test that fails, or none. Assumes nothing.
-use borrow.Author.Tests.{eq-eqb, ne-eqb, lt-ltb, le-ltb}
+use borrow.Author.Tests.{lt-ltb, le-ltb}
 use Rattle.scope.specs.Refusal.{lineTests}
 use Rattle.scope.proofs.Judged.{broken, sound, first, then, both, refuse-verdict, grant-verdict}
 use Rattle.scope.proofs.judge_lines.Statement.{statement}
@@ -7,19 +7,15 @@ use Rattle.scope.proofs.judge_lines.Tie as tie
 
 returns : tie.Need-returns
 unfolding lineTests
-returns c = refuse-verdict (first (first (broken (eq-eqb _ _ (c .if1 .taken)))))
+returns c = refuse-verdict (first (broken (lt-ltb _ _ (c .if1 .taken))))
 
 returns-2 : tie.Need-returns-2
 unfolding lineTests
-returns-2 c = refuse-verdict (first (then (sound (ne-eqb _ _ (c .before .if1 .left))) (broken (lt-ltb _ _ (c .if2 .taken)))))
+returns-2 c = refuse-verdict (then (sound (le-ltb _ _ (c .before .if1 .left))) (broken (lt-ltb _ _ (c .if2 .taken))))
 
 returns-3 : tie.Need-returns-3
 unfolding lineTests
-returns-3 c = refuse-verdict (then (both (sound (ne-eqb _ _ (c .before .before .if1 .left))) (sound (le-ltb _ _ (c .before .if2 .left)))) (broken (lt-ltb _ _ (c .if3 .taken))))
-
-returns-4 : tie.Need-returns-4
-unfolding lineTests
-returns-4 c = grant-verdict (both (both (sound (ne-eqb _ _ (c .before .before .if1 .left))) (sound (le-ltb _ _ (c .before .if2 .left)))) (sound (le-ltb _ _ (c .if3 .left))))
+returns-3 c = grant-verdict (both (sound (le-ltb _ _ (c .before .if1 .left))) (sound (le-ltb _ _ (c .if2 .left))))
 
 pub judge-lines-spec : {M : Type 1} → statement M
-judge-lines-spec = tie.close (tie.spec returns returns-2 returns-3 returns-4)
+judge-lines-spec = tie.close (tie.spec returns returns-2 returns-3)

@@ -80,7 +80,7 @@ returns-2 c =
     let k = t .before .before in
     let d = k .before in
     let s = d .before .before in
-    rw (c .cells .ensures) (begun-none (s .pre .0) (s .pre .1) (start d) refl (subst (Sought _ _ _ _ _) (t .enum-told .given .1) (k .enter .ensures)))
+    rw (c .cells .ensures) (begun-none (s .pre .0) (s .pre .1) (start d) refl refl (subst (Sought _ _ _ _ _) (t .enum-told .given .1) (k .enter .ensures)))
 
 pub begin-spec : {M : Type 1} → statement M
 begin-spec =

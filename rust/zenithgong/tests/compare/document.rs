@@ -1,8 +1,8 @@
-//! The bench figures of document 01, examples of request E1's refusals, and the words of all refusals.
+//! The bench figures of document 01, examples of request E1's refusals and of request E2's runs, and the words of all refusals.
 use crate::library::*;
 use crate::support::{trials, wide};
 use crate::{files, texts};
-use zenithgong::{Input, Listing, Refusal, Run, Steps, Vector};
+use zenithgong::{FirstHit, Input, Listing, Refusal, Run, Steps, Vector};
 
 /// A refusal that concerns no source of a list.
 fn alone<T>(number: u8) -> Result<T, Refusal> {
@@ -101,14 +101,13 @@ fn text_says(text: &str, answer: Result<Input, Refusal>) {
     texts::compare(text.as_bytes());
 }
 
-/// Lines that break a limit, or two, and the refusal that comes. After a first line of 0 no last line comes before it, so 16
-/// and 17 are never both at hand.
+/// Lines that break a limit, or two, and the refusal that comes.
 const LINES: [(u32, u32, u8); 7] = [
-    (0, 0, 16),
-    (0, 16_777_217, 16),
+    (1, 0, 17),
     (7, 6, 17),
     (16_777_217, 16_777_216, 17),
     (16_777_219, 16_777_218, 17),
+    (0, 16_777_217, 18),
     (1, 16_777_217, 18),
     (16_777_217, 16_777_217, 18),
 ];
@@ -144,16 +143,77 @@ const BENCH: Run = Run {
     last: 5,
 };
 
+/// The run's file is read, and written again with the same bytes.
+fn reads_back(run: Run, map: &[u8]) {
+    let file = reference::file_of(&wide(run), map);
+    let mut back = vec![9; map.len()];
+    assert_eq!(read(&file, &mut back), Ok(run));
+    assert_eq!(back, map);
+    let mut again = vec![9; file.len()];
+    assert_eq!(save(run, &back, &mut again), Ok(()));
+    assert_eq!(again, file);
+}
+
+/// The example of request E2: the document's sources from line 0 on.
+#[test]
+fn map_and_file_from_line_0() {
+    trials("a map and a file from line 0", 1, |_| {
+        let text = "run 4 10 0 5\nsrc 7 60\nsrc 3 200\n";
+        let input = read_text(text.as_bytes()).unwrap();
+        text_says(text, Ok(input.clone()));
+        let mut room = [0; 24];
+        let mut count = |period| list_hits(input.run, period, 0, &mut room);
+        assert_eq!(count(7), Ok(Listing::Done(4)));
+        assert_eq!(count(3), Ok(Listing::Done(8)));
+        let mut map = [0; 24];
+        add_to_map(input.run, &[7, 3], &[60, 200], &mut map).unwrap();
+        let expected = [
+            0, 0, 255, 0, 200, 0, 0, 200, 0, 255, 0, 0, 0, 0, 200, 0, 255, 0, 0, 200, 0, 200, 0, 60,
+        ];
+        assert_eq!(map, expected);
+        reads_back(input.run, &map);
+    });
+}
+
+/// A heading of the document's run whose first line is made 0: the run then has a line more.
 #[test]
 fn heading_with_line_0() {
-    trials("a file whose first line is 0", 1, |_| {
+    trials("a file whose first line is made 0", 1, |_| {
         let mut file = reference::file_of(&wide(BENCH), &[0; 20]);
-        let mut map = [9; 20];
+        let mut map = [9; 24];
         file[16] = 0;
         assert_eq!(read(&file, &mut map), alone(14));
         files::seal(&mut file, 16);
-        assert_eq!(read(&file, &mut map), alone(16));
-        assert_eq!(map, [9; 20]);
+        assert_eq!(read(&file, &mut map[..20]), alone(9));
+        assert_eq!(map, [9; 24]);
+        assert_eq!(read(&file, &mut map), Ok(Run { first: 0, ..BENCH }));
+        assert_eq!(map, [0; 24]);
+    });
+}
+
+/// The smallest run from line 0, and the last cell of the largest.
+#[test]
+fn ends_of_runs_from_line_0() {
+    trials("the ends of runs from line 0", 1, |_| {
+        let run = |window, interval, last| Run {
+            window,
+            interval,
+            first: 0,
+            last,
+        };
+        reads_back(run(2, 1, 0), &[7, 8]);
+        assert_eq!(first_hit(run(2, 1, 0), 5, 0), Ok(FirstHit::At(1)));
+        assert_eq!(first_hit(run(2, 1, 0), 5, 2), alone(8));
+        text_says("run 4 10 0 16777217\n", alone(18));
+        let largest = run(4096, 10, 16_777_216);
+        let last = 68_719_480_831;
+        let reply = Ok(FirstHit::At(last));
+        assert_eq!(first_hit(largest, 1, last), reply);
+        assert_eq!(first_hit(largest, 1, last + 1), alone(8));
+        let mut room = [0; 2];
+        let listing = list_hits(largest, 1, last, &mut room);
+        assert_eq!((listing, room), (Ok(Listing::Done(1)), [last, 0]));
+        assert_eq!(list_hits(largest, 1, last + 1, &mut room), alone(8));
     });
 }
 
@@ -197,17 +257,18 @@ fn reason(number: u8) -> String {
     words.strip_prefix(&start).unwrap().to_string()
 }
 
-/// There are words for all numbers that are given, which are those up to 18 without 2.
+/// There are words for all numbers that are given, which are those up to 18 without 2 and 16, and no two share them.
 #[test]
 fn every_refusal_has_its_words() {
-    for number in 1..=18 {
-        assert_eq!(reason(number).contains("unknown"), number == 2);
+    let unknown = reason(0);
+    for number in 1..=19 {
+        let given = ![2, 16, 19].contains(&number);
+        assert_eq!(reason(number) != unknown, given, "{}", number);
         for other in 1..number {
-            assert_ne!(reason(other), reason(number), "{} and {}", other, number);
+            let same = reason(other) == reason(number);
+            assert!(!(given && same), "{} and {}", other, number);
         }
     }
-    assert_eq!(reason(2), reason(0));
-    assert_eq!(reason(2), reason(19));
 }
 
 #[test]

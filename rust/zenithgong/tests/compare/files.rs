@@ -67,11 +67,11 @@ struct Example {
     cells: usize,
 }
 
-/// The document's run of 20 cells; 504 cells, which fill a block; two more, up to the last line; and 600.
+/// The document's run of 20 cells; 504 cells, from line 0 on, which fill a block; two more, up to the last line; and 600.
 fn examples(random: &mut Random) -> [Example; 4] {
     let runs = [
         (4, 10, 1, 5),
-        (4, 1, 100, 225),
+        (4, 1, 0, 125),
         (2, 4_294_967_295, 16_776_964, 16_777_216),
         (100, 7, 3, 8),
     ];
@@ -155,8 +155,8 @@ fn of_65_536_cells() {
         let run = Run {
             window,
             interval: random.number().max(1),
-            first: 1,
-            last: 65_536 / window,
+            first: 0,
+            last: 65_536 / window - 1,
         };
         let map = random.bytes(65_536);
         compare_save(random, run, &map, 512 * 132);

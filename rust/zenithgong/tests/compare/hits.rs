@@ -152,12 +152,12 @@ fn long_runs() {
 
 #[test]
 fn longest_runs() {
-    trials("runs of 16,777,216 lines", 6, |random| {
+    trials("runs of 16,777,217 lines", 6, |random| {
         let window = [2, 64, 512, 4096][random.below(4) as usize];
         let run = Run {
             window,
             interval: 4_294_967_295 - random.below(100) as u32,
-            first: 1,
+            first: 0,
             last: 16_777_216,
         };
         let longest = 2_147_483_647;

@@ -41,11 +41,8 @@ fn weight(random: &mut Random, bad: bool) -> u32 {
 
 const LAST: u32 = 16_777_216;
 
-/// Lines that break a limit: 16, then 17, then 18 alone, then 16 with 18, then 17 with 18. (16 and 17 do not come together.)
-const BROKEN: [(u32, u32); 15] = [
-    (0, 0),
-    (0, 5),
-    (0, LAST),
+/// Lines that break a limit: 17, then 18 alone, of which two begin at line 0, then 17 with 18.
+const BROKEN: [(u32, u32); 12] = [
     (1, 0),
     (7, 6),
     (LAST, LAST - 1),
@@ -62,7 +59,7 @@ const BROKEN: [(u32, u32); 15] = [
 
 /// A run of one or two lines.
 fn run(random: &mut Random, faults: u64) -> Run {
-    let good = [(1, 1), (1, 2), (LAST - 1, LAST), (LAST, LAST)];
+    let good = [(0, 0), (0, 1), (1, 2), (LAST - 1, LAST), (LAST, LAST)];
     let lines = if has(faults, 1) {
         &BROKEN[..]
     } else {
@@ -218,48 +215,60 @@ fn of_saving() {
     });
 }
 
-/// A file of the document's run, with faults put in: first what stands under a check, then the checks, then the length.
+/// Faults of a file's heading: numbers of its run, then the version, a spare byte or the filling.
+fn spoil_heading(random: &mut Random, file: &mut [u8], faults: u64) {
+    let bad = run(random, faults);
+    let numbers = [
+        (0, 8, bad.window),
+        (2, 12, bad.interval),
+        (1, 16, bad.first),
+        (1, 20, bad.last),
+    ];
+    for (fault, at, number) in numbers {
+        if has(faults, fault) {
+            file[at..at + 4].copy_from_slice(&number.to_le_bytes());
+        }
+    }
+    if has(faults, RUN) {
+        let at = pick(random, &[4, 5, 7, 24, 507]) as usize;
+        file[at] = random.between(2, 255) as u8;
+    }
+    files::seal(file, 0);
+}
+
+/// Faults of the other block, which is filled from byte 536 on, and of both blocks' numbers and checks.
+fn spoil_blocks(random: &mut Random, file: &mut [u8], faults: u64) {
+    if has(faults, RUN + 1) {
+        file[536 + random.below(484) as usize] = 1;
+        files::seal(file, 512);
+    }
+    for (fault, block) in [(RUN + 2, 0), (RUN + 3, 512)] {
+        if has(faults, fault) && random.one_in(2) {
+            file[block] = 2;
+            files::seal(file, block);
+        } else if has(faults, fault) {
+            file[block + 511] = 1;
+        }
+    }
+}
+
+/// A file of the document's run, or of one as long from line 0, with faults put in: first what stands under a check, then the
+/// checks, then the length.
 #[test]
 fn of_reading() {
     trials("faults of reading", 16 * 1024, |random| {
         let faults = random.seed() % 1024;
+        let first = random.below(2) as u32;
         let good = Run {
             window: 4,
             interval: 10,
-            first: 1,
-            last: 5,
+            first,
+            last: first + 4,
         };
         let map = random.bytes(20);
         let mut file = reference::file_of(&wide(good), &map);
-        let bad = run(random, faults);
-        let numbers = [
-            (0, 8, bad.window),
-            (2, 12, bad.interval),
-            (1, 16, bad.first),
-            (1, 20, bad.last),
-        ];
-        for (fault, at, number) in numbers {
-            if has(faults, fault) {
-                file[at..at + 4].copy_from_slice(&number.to_le_bytes());
-            }
-        }
-        if has(faults, RUN) {
-            let at = pick(random, &[4, 5, 7, 24, 507]) as usize;
-            file[at] = random.between(2, 255) as u8;
-        }
-        files::seal(&mut file, 0);
-        if has(faults, RUN + 1) {
-            file[536 + random.below(484) as usize] = 1;
-            files::seal(&mut file, 512);
-        }
-        for (fault, block) in [(RUN + 2, 0), (RUN + 3, 512)] {
-            if has(faults, fault) && random.one_in(2) {
-                file[block] = 2;
-                files::seal(&mut file, block);
-            } else if has(faults, fault) {
-                file[block + 511] = 1;
-            }
-        }
+        spoil_heading(random, &mut file, faults);
+        spoil_blocks(random, &mut file, faults);
         if has(faults, RUN + 4) {
             file.resize(if random.one_in(2) { 512 } else { 1_536 }, 0);
         }

@@ -68,9 +68,17 @@ impl Random {
         }
     }
 
-    /// A run within the limits, of a few lines anywhere.
+    /// A first line within the limits: 0 one time in four, else anywhere.
+    fn first_line(&mut self) -> u32 {
+        match self.below(4) {
+            0 => 0,
+            _ => self.number().min(16_777_216),
+        }
+    }
+
+    /// A run within the limits, of a few lines.
     pub fn small_run(&mut self) -> Run {
-        let first = self.number().clamp(1, 16_777_216);
+        let first = self.first_line();
         Run {
             window: 2 * self.between(1, 6),
             interval: self.number().max(1),
