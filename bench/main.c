@@ -250,24 +250,26 @@ static void measure(const char *row, const char *unit, double (*call)(int), cons
     fflush(stdout);
 }
 
-static void take_run(uint32_t window, uint64_t mib) { r = (run){window, 1, 1, (uint32_t)((mib << 20) / window)}; }
+// A run of so many MiB. From line 0 every source has a hit on the first line, from line 1 few with a long period have.
+static void take_run(uint32_t window, uint64_t mib, uint32_t first) {
+    r = (run){window, 1, first, first + (uint32_t)((mib << 20) / window) - 1};
+}
 
 static void measure_all(void) {
     char row[64];
     static const uint32_t windows[] = {64, 512, 4096};
     static const int sizes[] = {1, 64};
-    for (int s = 0; s < 3; s++)
-        for (int size = 0; size < 2; size++)
-            for (int w = 0; w < 3; w++) {
-                choose(&SETS[s]);
-                take_run(windows[w], sizes[size]);
-                snprintf(row, sizeof row, "map %s %u %d", SETS[s].name, windows[w], sizes[size]);
-                measure(row, "hit", call_map, "++++++");
-            }
+    for (int k = 0; k < 2 * 3 * 2 * 3; k++) {
+        int zero = k / 18, s = k / 6 % 3, size = k / 3 % 2, w = k % 3;
+        choose(&SETS[s]);
+        take_run(windows[w], sizes[size], zero ? 0 : 1);
+        snprintf(row, sizeof row, "%s %s %u %d", zero ? "map0" : "map", SETS[s].name, windows[w], sizes[size]);
+        measure(row, "hit", call_map, "++++++");
+    }
     for (int s = 1; s < 3; s++)
         for (int w = 0; w < 3; w++) {
             choose(&SETS[s]);
-            take_run(windows[w], 64);
+            take_run(windows[w], 64, 1);
             for (int k = 0; k < CALLS; k++) starts[k] = any() % cells_of(r);
             snprintf(row, sizeof row, "vectors %s %u -", SETS[s].name, windows[w]);
             measure(row, "call", call_vectors, "+-+++-");
@@ -277,12 +279,12 @@ static void measure_all(void) {
     for (int s = 0; s < 2; s++)
         for (int w = 0; w < 3; w++) {
             choose(&SETS[s]);
-            take_run(windows[w], s ? 64 : 1);
+            take_run(windows[w], s ? 64 : 1, 1);
             snprintf(row, sizeof row, "list %s %u %d", SETS[s].name, windows[w], s ? 64 : 1);
             measure(row, "hit", call_list, "+-+++-");
         }
     for (int size = 0; size < 2; size++) {
-        take_run(512, sizes[size]);
+        take_run(512, sizes[size], 1);
         for (uint64_t k = 0; k < cells_of(r); k++) map[k] = any();
         snprintf(row, sizeof row, "save - 512 %d", sizes[size]);
         measure(row, "cell", call_save, "+-++-+");
@@ -295,7 +297,7 @@ static void measure_all(void) {
 static void count(const char *name, uint32_t window, uint64_t mib, int who) {
     for (int s = 0; s < 3; s++)
         if (!strcmp(SETS[s].name, name)) choose(&SETS[s]);
-    take_run(window, mib);
+    take_run(window, mib, 1);
     r.interval = 1234567891;
     add(who);
     printf("%llu\n", (unsigned long long)count_hits());

@@ -95,7 +95,7 @@ windowTests window =
     Window when ltb window 2 andThen
     Window when ltb 4096 window
 
--- "17, 18 in the order named, in the place of 2" (E1): "last ≥ first, last ≤ 16,777,216". "A first line of 0 is accepted everywhere" (E2).
+-- "17, 18 in the order named, in the place of 2" (E1): "last ≥ first, last ≤ 16,777,216". "a first line of 0 is accepted everywhere" (E2).
 unfoldable pub lineTests : ℕ → ℕ → Tests
 lineTests first last =
     LineOrder when ltb last first andThen
