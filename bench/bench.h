@@ -16,6 +16,12 @@ typedef struct {
     vector left, right;
 } pair;
 
+// What a blanking list goes by: a threshold, and the lowest and the highest offset of the guard.
+typedef struct {
+    uint8_t threshold;
+    int64_t lowest, highest;
+} guard;
+
 // How many cells a run has, and how long its file is.
 static inline uint64_t cells_of(run r) { return (uint64_t)r.window * (r.last - r.first + 1); }
 static inline uint64_t file_of(run r) { return 512 * (1 + (cells_of(r) + 503) / 504); }
@@ -28,7 +34,8 @@ static inline uint64_t file_of(run r) { return 512 * (1 + (cells_of(r) + 503) / 
     uint64_t by##_first_hit(run r, uint32_t period, uint64_t start);                                               \
     size_t by##_list(run r, uint32_t period, uint64_t start, uint64_t *room, size_t length, uint64_t *next);       \
     void by##_save(run r, const uint8_t *map, uint8_t *file);                                                      \
-    int by##_read(const uint8_t *file, uint64_t length, run *r, uint8_t *map);
+    int by##_read(const uint8_t *file, uint64_t length, run *r, uint8_t *map);                                     \
+    size_t by##_blank(run r, guard g, const uint8_t *map, uint32_t *room, size_t length);
 PEERS(gcc)
 PEERS(clang)
 
@@ -37,3 +44,4 @@ pair rust_vectors(uint32_t period, uint32_t remainder, uint32_t window);
 uint64_t rust_first_hit(run r, uint32_t period, uint64_t start);
 size_t rust_list(run r, uint32_t period, uint64_t start, uint64_t *room, size_t length, uint64_t *next);
 void rust_walk(run r, const uint32_t *periods, const uint32_t *weights, size_t n, uint8_t *map);
+size_t rust_blank(run r, guard g, const uint8_t *map, uint32_t *room, size_t length);

@@ -13,7 +13,8 @@
 #include <string.h>
 #include <time.h>
 
-// The contenders, and their number. NAIVE is compiled by gcc; LIMIT writes all bytes and works out none.
+// The contenders, and their number. NAIVE is compiled by gcc; LIMIT writes all bytes, or looks at those that have to be looked at,
+// and works out none.
 enum { OURS, NAIVE, GCC, CLANG, RUST, LIMIT, WHO };
 enum { REPETITIONS = 41, CALLS = 20000, SOURCES = 1000, LONGEST = 64 << 20, ROOM = 1 << 22 };
 
@@ -209,14 +210,75 @@ static double call_read(int who) {
     return took;
 }
 
+// ---- the blanking list
+
+// What is asked for, and how many of each line's guard cells have to be looked at.
+static guard g;
+static uint32_t needed[LONGEST / 512];
+
+static uint8_t *line_of(uint32_t j) { return map + (uint64_t)(j - r.first) * r.window; }
+static uint8_t *guard_of(uint32_t j) { return line_of(j) + (g.lowest + r.window / 2); }
+
+// Up to the first that reaches the threshold, or all.
+static uint32_t needed_of(const uint8_t *cells) {
+    uint32_t n = 0, width = g.highest - g.lowest + 1;
+    while (n < width && cells[n] < g.threshold) n++;
+    return n < width ? n + 1 : width;
+}
+
+// A map below the threshold but for one cell of some lines: of one line in 50, anywhere (sparse), or of 15 lines in 16, among the
+// first eight of the guard (dense).
+static void fill(int dense) {
+    seed = 88172645463325252u;
+    for (uint64_t k = 0; k < cells_of(r); k++) map[k] = any() % g.threshold;
+    for (uint32_t j = r.first; j <= r.last; j++) {
+        if (!dense && any() % 50 == 0) line_of(j)[any() % r.window] = g.threshold;
+        if (dense && any() % 16 > 0) guard_of(j)[any() % 8] = g.threshold;
+        needed[j - r.first] = needed_of(guard_of(j));
+    }
+}
+
+// The limit: one pass over those cells, the largest of each line, without a branch on any of them.
+__attribute__((optimize("O3"))) static uint64_t look(void) {
+    uint64_t total = 0;
+    for (uint32_t j = r.first; j <= r.last; j++) {
+        const uint8_t *cells = guard_of(j);
+        uint8_t most = 0;
+        for (uint32_t k = 0, n = needed[j - r.first]; k < n; k++) most = most < cells[k] ? cells[k] : most;
+        total += most;
+    }
+    return total;
+}
+
+static double call_blank(int who) {
+    uint64_t lines = r.last - r.first + 1, count = 0;
+    uint32_t *to = (uint32_t *)room;
+    memset(to, 0, 8 * lines);
+    double began = seconds();
+    if (who == OURS) {
+        blanking_reply b = zenithgong_list_stretches(r.window, r.interval, r.first, r.last, map, cells_of(r), g.threshold,
+                                                     g.lowest, g.highest, to, 2 * lines);
+        if (b.refusal) exit(3);
+        count = b.count;
+    }
+    if (who == GCC) count = gcc_blank(r, g, map, to, 2 * lines);
+    if (who == CLANG) count = clang_blank(r, g, map, to, 2 * lines);
+    if (who == RUST) count = rust_blank(r, g, map, to, 2 * lines);
+    if (who == LIMIT) count = look();
+    double took = seconds() - began;
+    sum = sum_of(to, 8 * lines) + count, units = lines;
+    return took;
+}
+
 // ---- a row
 
 // Only rows that begin so are measured.
 static const char *only = "";
+static int wanted(const char *row) { return !strncmp(row, only, strlen(only)); }
 
 // Measures a row: 41 repetitions, or as many as fit in four seconds, at least 5. `takes_part` has a + for each contender that does.
 static void measure(const char *row, const char *unit, double (*call)(int), const char *takes_part) {
-    if (strncmp(row, only, strlen(only))) return;
+    if (!wanted(row)) return;
     static double took[WHO][REPETITIONS], ratio[REPETITIONS], each[REPETITIONS], whole[REPETITIONS], had[REPETITIONS];
     int n = 0;
     for (double spent = 0; n < REPETITIONS && (n < 5 || spent < 4); n++) {
@@ -290,6 +352,14 @@ static void measure_all(void) {
         measure(row, "cell", call_save, "+-++-+");
         snprintf(row, sizeof row, "read - 512 %d", sizes[size]);
         measure(row, "cell", call_read, "+-++-+");
+    }
+    for (int k = 0; k < 2 * 2 * 2; k++) {
+        int dense = k / 4, all = k / 2 % 2, size = k % 2;
+        take_run(512, sizes[size], 1);
+        g = all ? (guard){200, -256, 255} : (guard){200, -128, 127};
+        snprintf(row, sizeof row, "blank %s-%s 512 %d", dense ? "dense" : "sparse", all ? "all" : "half", sizes[size]);
+        if (wanted(row)) fill(dense);
+        measure(row, "line", call_blank, "+-++++");
     }
 }
 

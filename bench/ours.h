@@ -30,6 +30,11 @@ typedef struct {
 
 typedef struct {
     uint8_t refusal;
+    size_t count;
+} blanking_reply;
+
+typedef struct {
+    uint8_t refusal;
     uint32_t window, interval, first, last;
 } run_reply;
 
@@ -39,5 +44,7 @@ steps_reply *zenithgong_step_vectors(steps_reply *reply, uint32_t period, uint32
 first_hit_reply zenithgong_first_hit(RUN, uint32_t period, uint64_t start);
 listing_reply *zenithgong_list_hits(listing_reply *reply, RUN, uint32_t period, uint64_t start, uint64_t *room, size_t length);
 added_reply zenithgong_add_to_map(RUN, const uint32_t *periods, size_t sources, const uint32_t *weights, size_t as_many, uint8_t *map, size_t cells);
+blanking_reply zenithgong_list_stretches(RUN, const uint8_t *map, size_t cells, uint8_t threshold, int64_t lowest, int64_t highest,
+                                         uint32_t *room, size_t length);
 uint8_t zenithgong_save(RUN, const uint8_t *map, size_t cells, uint8_t *file, size_t length);
 run_reply *zenithgong_read(run_reply *reply, const uint8_t *file, size_t length, uint8_t *map, size_t cells);

@@ -1,4 +1,5 @@
-// The peers in plain C: what a user would write today (naive), and the walk of Franke and Kleinjung with all that belongs to it.
+// The peers in plain C: what a user would write today (naive, and the blanking list), and the walk of Franke and Kleinjung with
+// all that belongs to it.
 // They judge nothing that they are given but the blocks of a file. NAME(x) puts the compiler's name before x.
 #include "bench.h"
 #include <string.h>
@@ -192,4 +193,33 @@ int NAME(read)(const uint8_t *file, uint64_t length, run *r, uint8_t *map) {
         if (!is_block(k, all - at, file + 512 * k)) return 0;
     for (uint64_t at = 0, k = 1; at < all; at += 504, k++) memcpy(map + at, file + 512 * k + 4, all - at < 504 ? all - at : 504);
     return 1;
+}
+
+// Whether one of a line's guard cells reaches the threshold.
+static int is_blanked(const uint8_t *cells, size_t count, uint8_t threshold) {
+    for (size_t k = 0; k < count; k++)
+        if (cells[k] >= threshold) return 1;
+    return 0;
+}
+
+// The stretches of blanked lines into the room, and how many they are. They are counted first: if there are too many, none is written.
+size_t NAME(blank)(run r, guard g, const uint8_t *map, uint32_t *room, size_t length) {
+    const uint8_t *left = map + (g.lowest + r.window / 2), *cells = left;
+    size_t width = g.highest - g.lowest + 1, count = 0, n = 0;
+    int before = 0;
+    for (uint32_t j = r.first; j <= r.last; j++, cells += r.window) {
+        int blanked = is_blanked(cells, width, g.threshold);
+        if (blanked && !before) count++;
+        before = blanked;
+    }
+    if (length / 2 < count) return count;
+    cells = left, before = 0;
+    for (uint32_t j = r.first; j <= r.last; j++, cells += r.window) {
+        int blanked = is_blanked(cells, width, g.threshold);
+        if (blanked && !before) room[n++] = j;
+        if (!blanked && before) room[n++] = j - 1;
+        before = blanked;
+    }
+    if (before) room[n++] = r.last;
+    return count;
 }

@@ -1,4 +1,4 @@
-//! The same walk in plain, safe Rust.
+//! The same walk and the same blanking list in plain, safe Rust.
 
 #[repr(C)]
 #[derive(Clone, Copy)]
@@ -174,6 +174,46 @@ fn list(run: Run, period: u32, start: u64, room: &mut [u64]) -> (usize, u64) {
     (n, all)
 }
 
+/// What a blanking list goes by: a threshold, and the lowest and the highest offset of the guard.
+#[repr(C)]
+#[derive(Clone, Copy)]
+pub struct Guard {
+    threshold: u8,
+    lowest: i64,
+    highest: i64,
+}
+
+/// The stretches of blanked lines into the room, and how many they are. They are counted first: if there are too many, none is
+/// written.
+fn blank(run: Run, guard: Guard, map: &[u8], room: &mut [u32]) -> usize {
+    let half = (run.window / 2) as i64;
+    let (from, to) = ((guard.lowest + half) as usize, (guard.highest + half) as usize);
+    let is_blanked = |line: &[u8]| line[from..=to].iter().any(|&cell| cell >= guard.threshold);
+    let lines = || map.chunks_exact(run.window as usize).map(is_blanked);
+    let (mut count, mut before) = (0, false);
+    for blanked in lines() {
+        if blanked && !before {
+            count += 1;
+        }
+        before = blanked;
+    }
+    if room.len() / 2 < count {
+        return count;
+    }
+    let mut places = room.iter_mut();
+    before = false;
+    for (line, blanked) in (run.first..).zip(lines()) {
+        if blanked != before {
+            *places.next().unwrap() = if blanked { line } else { line - 1 };
+        }
+        before = blanked;
+    }
+    if before {
+        *places.next().unwrap() = run.last;
+    }
+    count
+}
+
 #[no_mangle]
 pub extern "C" fn rust_vectors(period: u32, remainder: u32, window: u32) -> Pair {
     vectors(period, remainder, window)
@@ -207,4 +247,12 @@ pub unsafe extern "C" fn rust_walk(run: Run, periods: *const u32, weights: *cons
             add_hits(run, period, weight as u8, map);
         }
     }
+}
+
+/// # Safety
+/// The map has the run's cells, the guard lies in its window, and the room has `length` numbers.
+#[no_mangle]
+pub unsafe extern "C" fn rust_blank(run: Run, guard: Guard, map: *const u8, room: *mut u32, length: usize) -> usize {
+    let map = std::slice::from_raw_parts(map, cells(run) as usize);
+    blank(run, guard, map, std::slice::from_raw_parts_mut(room, length))
 }

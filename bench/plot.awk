@@ -1,8 +1,8 @@
 # The rows of main.c as a plot: for each row the peers' times over ours, on a logarithmic scale.
 BEGIN {
     FS = "\t"
-    left = 190; top = 70; high = 18; decade = 82; low = -2; last = 5
-    split("naive C,C walk (gcc -O2),C walk (clang -O3),Rust walk,memset or memcpy", peer, ",")
+    left = 210; top = 70; high = 18; decade = 82; low = -2; last = 5
+    split("naive C,C (gcc -O2),C (clang -O3),Rust,limit", peer, ",")
     split("#b3261e,#1f4e9c,#4fa3d1,#c77700,#777777", colour, ",")
 }
 

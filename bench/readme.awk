@@ -1,10 +1,10 @@
-# README.md with what stands between its two markers made anew from RESULTS.md: the machine, the date, and the rows of the map at
-# a window of 512, as they stand there.
+# README.md with what stands between its two markers made anew from RESULTS.md: the machine, the date, and the rows of the map and of
+# the blanking list at a window of 512, as they stand there.
 #   awk -f readme.awk RESULTS.md README.md
 FNR == NR {
     if (/^# Measured on /) date = $4
     if (sub(/^- Machine: /, "")) { sub(/; load.*/, ""); machine = $0 }
-    if (/^\| what / || /^\|---\|---\|-/ || /^\| map( from line 0)? \| [^|]* \| 512 \|/) rows = rows $0 "\n"
+    if (/^\| what / || /^\|---\|---\|-/ || /^\| (map|map from line 0|blanking list) \| [^|]* \| 512 \|/) rows = rows $0 "\n"
     next
 }
 /^<!-- end of the measured rows -->$/ { ends++; within = 0 }

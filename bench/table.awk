@@ -2,7 +2,7 @@
 BEGIN {
     FS = "\t"
     what["map"] = "map"; what["map0"] = "map from line 0"; what["vectors"] = "vectors"; what["first"] = "first hit"; what["list"] = "listing"
-    what["save"] = "save"; what["read"] = "read"; what["count"] = "map, instructions"
+    what["save"] = "save"; what["read"] = "read"; what["blank"] = "blanking list"; what["count"] = "map, instructions"
     print "Every figure but ours is a time divided by ours: above 1, ours is faster. *Naive* takes a remainder on each line, *C*, *clang* and"
     print "*Rust* go the same walk without blocks, *limit* is a `memset` of the map (`memcpy` of the cells for save and read). The time is the"
     print "processor time of the thread. The interval changes with every call; what a call writes is cleared before it, outside the time; all"
@@ -10,7 +10,10 @@ BEGIN {
     print "seed: 30 of 3 to 2,000 (mix), 1,000 of 4,096 to 2^20, 1,000 of 4,096 to 2^31. The peers judge nothing that they are given but the"
     print "blocks of a file; ours judges all of it, within the time. The rows *map, instructions* are counts by callgrind, with the set-up, and"
     print "their ratios are ratios of counts. Runs begin at line 1, where few sources with a long period have a hit; in the rows *map from line 0*"
-    print "every source has one on the first line, so that its vectors are always worked out."
+    print "every source has one on the first line, so that its vectors are always worked out. In the rows *blanking list* the column of the"
+    print "periods says how many lines reach the threshold (one of 50 by any cell, or 15 of 16 by one of the guard's first eight) and how much of"
+    print "the window is guarded; *C*, *clang* and *Rust* go over the lines twice as ours does, to count the stretches and to write them, and the"
+    print "*limit* is one pass over the guard cells that have to be looked at, for the largest of each line."
     print ""
     print "| what | periods | window | MiB | ours | naive | C, gcc -O2 | C, clang -O3 | Rust | limit |"
     print "|---|---|--:|--:|--:|--:|--:|--:|--:|--:|"
@@ -22,8 +25,9 @@ function short(x) { return x == "-" ? "" : x >= 100 ? sprintf("%.0f", x) : x >= 
     split($1, name, " ")
     ours = name[1] == "count" ? short($3) " a hit" : name[1] ~ /^map/ && $5 < 20000 ? short($4 / 1000) " µs a call" : short($3) " ns a " $2
     for (k = 2; k <= 4; k++) if (name[k] == "-") name[k] = ""
+    sub(/-/, ", ", name[2])
     print "| " what[name[1]] " | " name[2] " | " name[3] " | " name[4] " | " ours " | " short($6) " | " short($7) " | " short($8) " | " short($9) " | " short($10) " |"
-    ours_of[$1] = $3; naive[$1] = $6; gcc[$1] = $7; rust[$1] = $9
+    ours_of[$1] = $3; naive[$1] = $6; gcc[$1] = $7; clang[$1] = $8; rust[$1] = $9
 }
 
 function verdict(met) { return met ? "met" : "**missed**" }
@@ -68,6 +72,14 @@ END {
     for (k = 1; k <= n; k++) {
         split(rows[k], name, " ")
         aim("naive / ours, map, " name[1] ", " name[2] " MiB", naive["map " name[1] " 512 " name[2]], name[3])
+    }
+    n = split("sparse-half 1,sparse-half 64,sparse-all 1,sparse-all 64,dense-half 1,dense-half 64,dense-all 1,dense-all 64", rows, ",")
+    for (k = 1; k <= n; k++) {
+        split(rows[k], name, " ")
+        text = " / ours, blanking list, " name[1] ", " name[2] " MiB"
+        sub(/-/, ", ", text)
+        aim("gcc" text, gcc["blank " name[1] " 512 " name[2]], 0.8)
+        aim("clang" text, clang["blank " name[1] " 512 " name[2]], 0.8)
     }
     n = split("mix 512 1,2^20 512 64", rows, ",")
     for (k = 1; k <= n; k++) {

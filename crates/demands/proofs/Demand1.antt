@@ -34,6 +34,12 @@ use Rattle.hits.specs.declared.Listing.{Listing}
 use Rattle.hits.specs.Promise.{firstHitTests, saysFirstHit, saysListing, first, listed, written, FirstHitPromise, ListingPromise}
 use Rattle.map.specs.declared.Added.{Added}
 use Rattle.map.specs.Promise.{mapTests, added, saysMap, MapPromise}
+use Rattle.blanking.specs.declared.Guard.{Guard}
+use Rattle.blanking.specs.declared.Blanking.{Blanking}
+use Rattle.blanking.specs.Promise.{saysBlanking, BlankingPromise}
+use Rattle.blanking.specs.Promise as Blanked
+use Rattle.blanking.specs.Table.{blankingTable}
+use Rattle.blanking.proofs.Table.{blanking-renders}
 use Rattle.saved.specs.declared.Saved.{Saved}
 use Rattle.saved.specs.declared.Loaded.{Loaded}
 use Rattle.saved.specs.File.{fileOf, runOf, mapOf}
@@ -107,6 +113,17 @@ module _ (run : Run) (periods weights map : List ℕ) (answer : Added) (after : 
   -- And the map then holds what it held: none is "half written before the tenth source is refused".
   pub map-keeps : (n : ℕ) (place : Place) → saysMap answer ≡ refused n place → after ≡ map
   map-keeps = keeps (map-renders run periods weights map) tt (saysMap answer) (h .says) map (added ceiling run (entriesOf periods weights) map) after (h .stores)
+
+-- ---- the blanking list
+
+module _ (run : Run) (map : List ℕ) (threshold : ℕ) (guard : Guard) (room : List ℕ) (answer : Blanking) (after : List ℕ) (h : BlankingPromise run map threshold guard room answer after) where
+  -- A reply of the blanking call reads "refused n" at a place exactly when its table says so.
+  pub blanking-refused : (n : ℕ) (place : Place) → (saysBlanking answer ≡ refused n place) ↔ Says (blankingTable run map threshold guard room) n place
+  blanking-refused = exactly (blanking-renders run map threshold guard room (h .are)) (length (h .stretches)) (saysBlanking answer) (h .says)
+
+  -- And the room then holds what it held: a list that does not fit has not begun to be written.
+  pub blanking-keeps : (n : ℕ) (place : Place) → saysBlanking answer ≡ refused n place → after ≡ room
+  blanking-keeps = keeps (blanking-renders run map threshold guard room (h .are)) (length (h .stretches)) (saysBlanking answer) (h .says) room (Blanked.written (h .stretches) room) after (h .stores)
 
 -- ---- saving and reading
 

@@ -29,6 +29,12 @@ use Rattle.hits.specs.Promise.{saysFirstHit, saysListing, FirstHitPromise, List
 use Rattle.map.specs.declared.Added.{Added}
 use Rattle.map.specs.declared.Added.the-variants.{Done as Done·added, Refused as Refused·added}
 use Rattle.map.specs.Promise.{saysMap, MapPromise}
+use Rattle.blanking.specs.declared.Guard.{Guard}
+use Rattle.blanking.specs.declared.Blanking.{Blanking}
+use Rattle.blanking.specs.declared.Blanking.the-variants.{Done as Done·blanking, Refused as Refused·blanking}
+use Rattle.blanking.specs.Promise.{saysBlanking, BlankingPromise}
+use Rattle.blanking.specs.Table.{blankingTable}
+use Rattle.blanking.proofs.Table.{blanking-renders}
 use Rattle.saved.specs.declared.Saved.{Saved}
 use Rattle.saved.specs.declared.Saved.the-variants.{Done as Done·saved, Refused as Refused·saved}
 use Rattle.saved.specs.declared.Loaded.{Loaded}
@@ -42,11 +48,12 @@ use Rattle.exports.specs.declared.StepsReply.{StepsReply}
 use Rattle.exports.specs.declared.FirstHitReply.{FirstHitReply}
 use Rattle.exports.specs.declared.ListingReply.{ListingReply}
 use Rattle.exports.specs.declared.AddedReply.{AddedReply}
+use Rattle.exports.specs.declared.BlankingReply.{BlankingReply}
 use Rattle.exports.specs.declared.RunReply.{RunReply}
 use Rattle.exports.specs.declared.TextReply.{TextReply}
 use Rattle.demands.specs.Places.{RightPlace}
 use Rattle.exports.specs.Promise.{Exported}
-use Rattle.exports.specs.Replies.{tellPlace, tellSteps, tellFirst, tellListing, tellAdded, tellSaved, tellLoaded, tellAnswer, tellTextPlace, tellText}
+use Rattle.exports.specs.Replies.{tellPlace, tellSteps, tellFirst, tellListing, tellAdded, tellBlanking, tellSaved, tellLoaded, tellAnswer, tellTextPlace, tellText}
 use Rattle.scope.specs.Table.{Says, PlaceTold, Tells}
 use Rattle.saved.specs.Table.{savingTable, readingTable}
 use Rattle.vectors.specs.Table.{vectorsTable}
@@ -59,8 +66,8 @@ use Rattle.hits.proofs.Table.{first-hit-renders, listing-renders}
 use Rattle.map.proofs.Table.{map-renders}
 use Rattle.text.proofs.Table.{text-renders}
 use Rattle.saved.proofs.Table.{saving-renders, reading-renders}
-use Rattle.demands.proofs.Demand1.{vectors-refused, first-hit-refused, listing-refused, listing-keeps, map-refused, map-keeps, saving-refused, saving-keeps, reading-refused, reading-keeps, text-refused, text-refused-alone}
-use Rattle.demands.proofs.Demand1Places.{said-nowhere, vectors-without, first-hit-without, listing-without, saving-without, reading-without, map-placed, says-placed, vectors-placeless, first-hit-placeless, listing-placeless, saving-placeless, reading-placeless}
+use Rattle.demands.proofs.Demand1.{vectors-refused, first-hit-refused, listing-refused, listing-keeps, map-refused, map-keeps, blanking-refused, blanking-keeps, saving-refused, saving-keeps, reading-refused, reading-keeps, text-refused, text-refused-alone}
+use Rattle.demands.proofs.Demand1Places.{said-nowhere, vectors-without, first-hit-without, listing-without, blanking-without, saving-without, reading-without, map-placed, says-placed, vectors-placeless, first-hit-placeless, listing-placeless, blanking-placeless, saving-placeless, reading-placeless}
 
 -- ---- every C function
 
@@ -188,6 +195,14 @@ added-place : (r : Added) → tellAdded r .place ≡ placeIn (saysMap r)
 added-place Done·added = refl
 added-place (Refused·added reason place) = refl
 
+blanking-field : (r : Blanking) → tellBlanking r .refusal ≡ refusalIn (saysBlanking r)
+blanking-field (Done·blanking m) = refl
+blanking-field (Refused·blanking reason place) = refl
+
+blanking-only : (r : Blanking) (n : ℕ) (place : Place) → saysBlanking r ≡ refused n place → (reason : Reason) × (r ≡ Refused·blanking reason place)
+blanking-only (Done·blanking m) n place e = absurd (let z : _≡_ {A = ℕ} 0 1 = cc in omega arith)
+blanking-only (Refused·blanking reason k) n place e = (reason, ap (Refused·blanking reason) (refused-same e .1))
+
 saved-field : (r : Saved) → tellSaved r ≡ refusalIn (saysSaving r)
 saved-field Done·saved = refl
 saved-field (Refused·saved reason place) = refl
@@ -212,7 +227,7 @@ answer-only : (r : Answer) (n : ℕ) (place : Place) → saysText r ≡ refused 
 answer-only (Read run) n place e = absurd (let z : _≡_ {A = ℕ} 0 1 = cc in omega arith)
 answer-only (Refused·text reason k) n place e = (reason, ap (Refused·text reason) (refused-same e .1))
 
--- ---- the seven functions
+-- ---- the eight functions
 
 -- `zenithgong_step_vectors`. (Nothing is lent.)
 module _ (p r I : ℕ) {a : StepsReply} (e : Exported (VectorsPromise p r I) tellSteps a) where
@@ -260,6 +275,18 @@ module _ (run : Run) (periods weights map : List ℕ) {after : List ℕ} {a : Ad
 
   pub exported-map-keeps : a .refusal ≢ 0 → after ≡ map
   exported-map-keeps = kept e (λ a. a .refusal) saysMap added-field (λ r h. map-keeps run periods weights map r after h)
+
+-- `zenithgong_list_stretches`
+module _ (run : Run) (map : List ℕ) (threshold : ℕ) (guard : Guard) (room : List ℕ) {after : List ℕ} {a : BlankingReply} (e : Exported (λ r. BlankingPromise run map threshold guard room r after) tellBlanking a) where
+  pub exported-blanking-refused : Tells (Says (blankingTable run map threshold guard room)) (a .refusal) 0
+  exported-blanking-refused =
+      by-table e (λ a. a .refusal) saysBlanking blanking-field (λ a. 0) (λ r h. none-told (saysBlanking r) (blanking-placeless run map threshold guard room r after h)) (λ r h. blanking-refused run map threshold guard room r after h)
+      (nowhere-counted (said-some (blanking-renders run map threshold guard room (e .promised .are))) (said-nowhere (blankingTable run map threshold guard room) (blanking-without run map threshold guard room)))
+
+  pub exported-blanking-keeps : a .refusal ≢ 0 → (a ≡ record { refusal = a .refusal; count = 0 }) × (after ≡ room)
+  exported-blanking-keeps some =
+      let (reason, place, is) = alone e (λ a. a .refusal) saysBlanking blanking-field Refused·blanking (λ r h. blanking-only r) some in
+      (rw is refl, kept e (λ a. a .refusal) saysBlanking blanking-field (λ r h. blanking-keeps run map threshold guard room r after h) some)
 
 -- `zenithgong_save`, whose answer is the refusal
 module _ (run : Run) (map room : List ℕ) {after : List ℕ} {a : ℕ} (e : Exported (λ r. SavingPromise run map room r after) tellSaved a) where

@@ -12,12 +12,13 @@ use Rattle.scope.proofs.Rendered.{said-not-withdrawn}
 use Rattle.vectors.proofs.Table.{vectors-renders}
 use Rattle.hits.proofs.Table.{first-hit-renders, listing-renders}
 use Rattle.map.proofs.Table.{map-renders}
+use Rattle.blanking.proofs.Table.{blanking-renders}
 use Rattle.saved.proofs.Table.{saving-renders, reading-renders}
 use Rattle.text.specs.Table.{SaysOfText}
 use Rattle.text.proofs.Table.{text-renders}
-use Rattle.demands.specs.Given.{Gives, vectors, first-hit, listing, map, saving, reading, text, report, c-vectors, c-first-hit, c-listing, c-map, c-saving, c-reading, c-text}
-use Rattle.demands.proofs.Demand1.{vectors-refused, first-hit-refused, listing-refused, map-refused, saving-refused, reading-refused, text-refused, report-refused}
-use Rattle.demands.proofs.Demand1Exports.{exported-vectors-refused, exported-first-hit-refused, exported-listing-refused, exported-map-refused, exported-saving-refused, exported-reading-refused, exported-text-refused}
+use Rattle.demands.specs.Given.{Gives, vectors, first-hit, listing, map, blanking, saving, reading, text, report, c-vectors, c-first-hit, c-listing, c-map, c-blanking, c-saving, c-reading, c-text}
+use Rattle.demands.proofs.Demand1.{vectors-refused, first-hit-refused, listing-refused, map-refused, blanking-refused, saving-refused, reading-refused, text-refused, report-refused}
+use Rattle.demands.proofs.Demand1Exports.{exported-vectors-refused, exported-first-hit-refused, exported-listing-refused, exported-map-refused, exported-blanking-refused, exported-saving-refused, exported-reading-refused, exported-text-refused}
 
 module _ (n : ℕ) (gone : Withdrawn n) where
   -- the table of a text does not say it
@@ -40,6 +41,7 @@ module _ (n : ℕ) (gone : Withdrawn n) where
   never-given (first-hit run source start r h place e) = said-not-withdrawn (first-hit-renders run source start) n gone place (first-hit-refused run source start r h n place .0 e)
   never-given (listing run source start room r after h place e) = said-not-withdrawn (listing-renders run source start room) n gone place (listing-refused run source start room r after h n place .0 e)
   never-given (map run periods weights before r after h place e) = said-not-withdrawn (map-renders run periods weights before) n gone place (map-refused run periods weights before r after h n place .0 e)
+  never-given (blanking run cells threshold guard room r after h place e) = said-not-withdrawn (blanking-renders run cells threshold guard room (h .are)) n gone place (blanking-refused run cells threshold guard room r after h n place .0 e)
   never-given (saving run cells room r after h place e) = said-not-withdrawn (saving-renders run cells room) n gone place (saving-refused run cells room r after h n place .0 e)
   never-given (reading file before r after h place e) = said-not-withdrawn (reading-renders file before) n gone place (reading-refused file before r after h n place .0 e)
   never-given (text bytes input h place e) = says-not-withdrawn bytes place (text-refused bytes input h n place .0 e)
@@ -48,6 +50,7 @@ module _ (n : ℕ) (gone : Withdrawn n) where
   never-given (c-first-hit run source start a h e some) = untold (exported-first-hit-refused run source start h) (said-not-withdrawn (first-hit-renders run source start) n gone) e some
   never-given (c-listing run source start room a after h e some) = untold (exported-listing-refused run source start room h) (said-not-withdrawn (listing-renders run source start room) n gone) e some
   never-given (c-map run periods weights before a after h e some) = untold (exported-map-refused run periods weights before h) (said-not-withdrawn (map-renders run periods weights before) n gone) e some
+  never-given (c-blanking run cells threshold guard room a after h e some) = untold (exported-blanking-refused run cells threshold guard room h) (said-not-withdrawn (blanking-renders run cells threshold guard room (h .promised .are)) n gone) e some
   never-given (c-saving run cells room a after h e some) = untold (exported-saving-refused run cells room h) (said-not-withdrawn (saving-renders run cells room) n gone) e some
   never-given (c-reading file before a after h e some) = untold (exported-reading-refused file before h) (said-not-withdrawn (reading-renders file before) n gone) e some
   never-given (c-text bytes a h e some) = untold (exported-text-refused bytes h) (says-not-withdrawn bytes) e some

@@ -33,6 +33,10 @@ use Rattle.map.specs.Promise.{saysMap, MapPromise}
 use Rattle.map.specs.Table.{mapTable}
 use Rattle.fileblocks.specs.FileBlock.{contentBytes}
 use Rattle.fileblocks.specs.Table.{fileBlockTable}
+use Rattle.blanking.specs.declared.Guard.{Guard}
+use Rattle.blanking.specs.declared.Blanking.{Blanking}
+use Rattle.blanking.specs.Promise.{saysBlanking, BlankingPromise}
+use Rattle.blanking.specs.Table.{blankingTable}
 use Rattle.saved.specs.declared.Saved.{Saved}
 use Rattle.saved.specs.declared.Loaded.{Loaded}
 use Rattle.saved.specs.File.{fileBlocksFor, bytesFor, fileBlockAt, runOf}
@@ -50,7 +54,7 @@ use Rattle.report.specs.Report.{refusalReport}
 use Rattle.report.specs.Promise.{ReportPromise}
 use Rattle.demands.specs.Texts.{printedBy}
 use Rattle.demands.specs.Places.{RightPlace, srcCount}
-use Rattle.demands.proofs.Demand1.{vectors-refused, first-hit-refused, listing-refused, map-refused, saving-refused, reading-refused, text-refused, report-refused}
+use Rattle.demands.proofs.Demand1.{vectors-refused, first-hit-refused, listing-refused, map-refused, blanking-refused, saving-refused, reading-refused, text-refused, report-refused}
 
 -- No two reasons share a number.
 pub numbers-apart : (a b : Reason) → number a ≡ number b → a ≡ b
@@ -74,6 +78,9 @@ first-hit-without run source start = (refl, (refl, (refl, (refl, (refl, (refl, t
 
 pub listing-without : (run : Run) (source : Source) (start : RunCell) (room : List ℕ) → Every Without (listingTable run source start room)
 listing-without run source start room = (refl, (refl, (refl, (refl, (refl, (refl, (refl, tt)))))))
+
+pub blanking-without : (run : Run) (map : List ℕ) (threshold : ℕ) (guard : Guard) (room : List ℕ) → Every Without (blankingTable run map threshold guard room)
+blanking-without run map threshold guard room = (refl, (refl, (refl, (refl, (refl, (refl, (refl, (refl, tt))))))))
 
 pub saving-without : (run : Run) (map room : List ℕ) → Every Without (savingTable run map room)
 saving-without run map room = (refl, (refl, (refl, (refl, (refl, tt)))))
@@ -104,6 +111,11 @@ module _ (run : Run) (source : Source) (start : RunCell) where
   module _ (room : List ℕ) (r : Listing) (after : List ℕ) (h : ListingPromise run source start room r after) where
     pub listing-placeless : (n : ℕ) (place : Place) → saysListing r ≡ refused n place → place ≡ Nowhere
     listing-placeless n place e = said-nowhere (listingTable run source start room) (listing-without run source start room) n place (listing-refused run source start room r after h n place .0 e)
+
+-- Nor has one of the blanking call.
+module _ (run : Run) (map : List ℕ) (threshold : ℕ) (guard : Guard) (room : List ℕ) (answer : Blanking) (after : List ℕ) (h : BlankingPromise run map threshold guard room answer after) where
+  pub blanking-placeless : (n : ℕ) (place : Place) → saysBlanking answer ≡ refused n place → place ≡ Nowhere
+  blanking-placeless n place e = said-nowhere (blankingTable run map threshold guard room) (blanking-without run map threshold guard room) n place (blanking-refused run map threshold guard room answer after h n place .0 e)
 
 -- Nor has one of saving or of reading a file.
 module _ (run : Run) (map room : List ℕ) (answer : Saved) (after : List ℕ) (h : SavingPromise run map room answer after) where

@@ -16,6 +16,7 @@ pub mod Cuts
 pub mod CutHits
 pub mod Demand3Listing
 pub mod LineZero
+pub mod BlankingLists
 pub mod CutMaps
 pub mod Demand3Adding
 pub mod Texts

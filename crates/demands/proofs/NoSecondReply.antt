@@ -1,6 +1,6 @@
 -- Document 01, "How much each promise says": "For every input, refusals too, each public operation's promise determines the
--- reply and every lent cell afterwards. That no second reply fits is proved". One theorem for each of the library's eight
--- operations, which cites the one of the operation's own crate; of the seven C functions: exports, Unique. There is no
+-- reply and every lent cell afterwards. That no second reply fits is proved". One theorem for each of the library's nine
+-- operations, which cites the one of the operation's own crate; of the eight C functions: exports, Unique. There is no
 -- exception. Assumes nothing.
 use Prim.Native.Nat.{ℕ}
 use mathlib.Core.Path.{_≡_}
@@ -18,6 +18,10 @@ use Rattle.hits.proofs.Unique as Hits
 use Rattle.map.specs.declared.Added.{Added}
 use Rattle.map.specs.Promise.{MapPromise}
 use Rattle.map.proofs.Unique as Map
+use Rattle.blanking.specs.declared.Guard.{Guard}
+use Rattle.blanking.specs.declared.Blanking.{Blanking}
+use Rattle.blanking.specs.Promise.{BlankingPromise}
+use Rattle.blanking.proofs.Unique as Blanked
 use Rattle.saved.specs.declared.Saved.{Saved}
 use Rattle.saved.specs.declared.Loaded.{Loaded}
 use Rattle.saved.specs.Promise.{SavingPromise, ReadingPromise}
@@ -44,6 +48,10 @@ listing-unique run source start room a b after after′ = Hits.listing-unique
 -- The map call: one reply, and one map after it.
 pub map-unique : (run : Run) (periods weights map : List ℕ) (a b : Added) (after after′ : List ℕ) → MapPromise run periods weights map a after → MapPromise run periods weights map b after′ → (a ≡ b) × (after ≡ after′)
 map-unique run periods weights map a b after after′ = Map.map-unique
+
+-- The blanking call: one reply, and one room after it.
+pub blanking-unique : (run : Run) (map : List ℕ) (threshold : ℕ) (guard : Guard) (room : List ℕ) (a b : Blanking) (after after′ : List ℕ) → BlankingPromise run map threshold guard room a after → BlankingPromise run map threshold guard room b after′ → (a ≡ b) × (after ≡ after′)
+blanking-unique run map threshold guard room a b after after′ = Blanked.blanking-unique
 
 -- Saving: one reply, and one file after it.
 pub saving-unique : (run : Run) (map room : List ℕ) (a b : Saved) (after after′ : List ℕ) → SavingPromise run map room a after → SavingPromise run map room b after′ → (a ≡ b) × (after ≡ after′)

@@ -1,4 +1,4 @@
--- For every input of each of the eight operations some reply fits the promise, so that the theorems over the promises are not empty.
+-- For every input of each of the nine operations some reply fits the promise, so that the theorems over the promises are not empty.
 -- (That the program's own reply fits is what the check of each operation says.) Assumes nothing.
 use Prim.Native.Nat.{ℕ}
 use mathlib.Core.Path.{_≡_, refl}
@@ -21,6 +21,10 @@ use Rattle.hits.proofs.Unique as Hits
 use Rattle.map.specs.declared.Added.{Added}
 use Rattle.map.specs.Promise.{MapPromise}
 use Rattle.map.proofs.Unique as Map
+use Rattle.blanking.specs.declared.Guard.{Guard}
+use Rattle.blanking.specs.declared.Blanking.{Blanking}
+use Rattle.blanking.specs.Promise.{BlankingPromise}
+use Rattle.blanking.proofs.Unique as Blanked
 use Rattle.saved.specs.declared.Saved.{Saved}
 use Rattle.saved.specs.declared.Loaded.{Loaded}
 use Rattle.saved.specs.Promise.{SavingPromise, ReadingPromise}
@@ -47,11 +51,15 @@ first-hit-exists = Hits.first-hit-exists
 pub listing-exists : (run : Run) (source : Source) (start : RunCell) (room : List ℕ) → (r : Listing) × (after : List ℕ) × ListingPromise run source start room r after
 listing-exists = Hits.listing-exists
 
--- ---- map, saving and reading: the call is refused, or it is done
+-- ---- map, blanking list, saving and reading: the call is refused, or it is done
 
 -- Some reply and some map after it fit the map call.
 pub map-exists : (run : Run) (periods weights map : List ℕ) → (answer : Added) × (after : List ℕ) × MapPromise run periods weights map answer after
 map-exists = Map.map-exists ceiling
+
+-- Some reply and some room after it fit the blanking call.
+pub blanking-exists : (run : Run) (map : List ℕ) (threshold : ℕ) (guard : Guard) (room : List ℕ) → (answer : Blanking) × (after : List ℕ) × BlankingPromise run map threshold guard room answer after
+blanking-exists = Blanked.blanking-exists
 
 -- Some reply and some file after it fit saving.
 pub saving-exists : (run : Run) (map room : List ℕ) → (answer : Saved) × (after : List ℕ) × SavingPromise run map room answer after

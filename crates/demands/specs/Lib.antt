@@ -6,3 +6,4 @@ pub mod Adding
 pub mod Texts
 pub mod Places
 pub mod Given
+pub mod Blanking

@@ -1,5 +1,5 @@
 -- Document 01, "How much each promise says": "each public operation's promise determines the reply and every lent cell
--- afterwards", of the seven C functions. An export adds nothing that its operation leaves open. Assumes nothing.
+-- afterwards", of the eight C functions. An export adds nothing that its operation leaves open. Assumes nothing.
 use Prim.Native.Nat.{ℕ}
 use mathlib.Core.Path.{_≡_, sym, ap, _∙_}
 use mathlib.Core.List.{List}
@@ -12,6 +12,9 @@ use Rattle.hits.specs.Promise.{FirstHitPromise, ListingPromise}
 use Rattle.hits.proofs.Unique.{first-hit-unique, listing-unique}
 use Rattle.map.specs.Promise.{MapPromise}
 use Rattle.map.proofs.Unique.{map-unique}
+use Rattle.blanking.specs.declared.Guard.{Guard}
+use Rattle.blanking.specs.Promise.{BlankingPromise}
+use Rattle.blanking.proofs.Unique.{blanking-unique}
 use Rattle.saved.specs.Promise.{SavingPromise, ReadingPromise}
 use Rattle.saved.proofs.Unique.{saving-unique, reading-unique}
 use Rattle.text.specs.Promise.{TextPromise}
@@ -20,10 +23,11 @@ use Rattle.exports.specs.declared.StepsReply.{StepsReply}
 use Rattle.exports.specs.declared.FirstHitReply.{FirstHitReply}
 use Rattle.exports.specs.declared.ListingReply.{ListingReply}
 use Rattle.exports.specs.declared.AddedReply.{AddedReply}
+use Rattle.exports.specs.declared.BlankingReply.{BlankingReply}
 use Rattle.exports.specs.declared.RunReply.{RunReply}
 use Rattle.exports.specs.declared.TextReply.{TextReply}
 use Rattle.exports.specs.Promise.{Exported}
-use Rattle.exports.specs.Replies.{tellSteps, tellFirst, tellListing, tellAdded, tellSaved, tellLoaded, tellText}
+use Rattle.exports.specs.Replies.{tellSteps, tellFirst, tellListing, tellAdded, tellBlanking, tellSaved, tellLoaded, tellText}
 
 -- Where no second reply fits, no second answer does. (Two promises: of what is lent, each may name what it holds afterwards.)
 answer-unique : {A B : Type 0} {Promise Other : A → Type 0} {told : A → B} {a b : B} → ((r s : A) → Promise r → Other s → r ≡ s) → Exported Promise told a → Exported Other told b → a ≡ b
@@ -44,6 +48,10 @@ exported-listing-unique x y = (answer-unique (λ r s p q. listing-unique p q .0)
 -- `zenithgong_add_to_map`: one answer, and one map after it.
 pub exported-map-unique : {run : Run} {periods weights map after after′ : List ℕ} {a b : AddedReply} → Exported (λ r. MapPromise run periods weights map r after) tellAdded a → Exported (λ r. MapPromise run periods weights map r after′) tellAdded b → (a ≡ b) × (after ≡ after′)
 exported-map-unique x y = (answer-unique (λ r s p q. map-unique p q .0) x y, map-unique (x .promised) (y .promised) .1)
+
+-- `zenithgong_list_stretches`: one answer, and one room after it.
+pub exported-blanking-unique : {run : Run} {map : List ℕ} {threshold : ℕ} {guard : Guard} {room after after′ : List ℕ} {a b : BlankingReply} → Exported (λ r. BlankingPromise run map threshold guard room r after) tellBlanking a → Exported (λ r. BlankingPromise run map threshold guard room r after′) tellBlanking b → (a ≡ b) × (after ≡ after′)
+exported-blanking-unique x y = (answer-unique (λ r s p q. blanking-unique p q .0) x y, blanking-unique (x .promised) (y .promised) .1)
 
 -- `zenithgong_save`: one answer, and one file after it.
 pub exported-saving-unique : {run : Run} {map file after after′ : List ℕ} {a b : ℕ} → Exported (λ r. SavingPromise run map file r after) tellSaved a → Exported (λ r. SavingPromise run map file r after′) tellSaved b → (a ≡ b) × (after ≡ after′)

@@ -13,6 +13,8 @@ use Rattle.hits.specs.declared.Listing.{Listing}
 use Rattle.hits.specs.declared.Listing.the-variants.{Done as Done·listing, More, Refused as Refused·listing}
 use Rattle.map.specs.declared.Added.{Added}
 use Rattle.map.specs.declared.Added.the-variants.{Done as Done·added, Refused as Refused·added}
+use Rattle.blanking.specs.declared.Blanking.{Blanking}
+use Rattle.blanking.specs.declared.Blanking.the-variants.{Done as Done·blanking, Refused as Refused·blanking}
 use Rattle.saved.specs.declared.Saved.{Saved}
 use Rattle.saved.specs.declared.Saved.the-variants.{Done as Done·saved, Refused as Refused·saved}
 use Rattle.saved.specs.declared.Loaded.{Loaded}
@@ -24,6 +26,7 @@ use Rattle.exports.specs.declared.StepsReply.{StepsReply}
 use Rattle.exports.specs.declared.FirstHitReply.{FirstHitReply}
 use Rattle.exports.specs.declared.ListingReply.{ListingReply}
 use Rattle.exports.specs.declared.AddedReply.{AddedReply}
+use Rattle.exports.specs.declared.BlankingReply.{BlankingReply}
 use Rattle.exports.specs.declared.RunReply.{RunReply}
 use Rattle.exports.specs.declared.TextReply.{TextReply}
 
@@ -54,6 +57,11 @@ tellListing (Refused·listing reason place) = record { refusal = number reason; 
 abbrev pub tellAdded : Added → AddedReply
 tellAdded Done·added = record { refusal = 0; place = 0 }
 tellAdded (Refused·added reason place) = record { refusal = number reason; place = tellPlace place }
+
+-- The blanking list: how many stretches were written.
+abbrev pub tellBlanking : Blanking → BlankingReply
+tellBlanking (Done·blanking count) = record { refusal = 0; count = count }
+tellBlanking (Refused·blanking reason place) = record { refusal = number reason; count = 0 }
 
 -- Saving: the refusal's number alone.
 abbrev pub tellSaved : Saved → ℕ

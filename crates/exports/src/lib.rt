@@ -2,6 +2,8 @@
 // Every function is proved and asks nothing of its caller. A slice goes in as a pointer and a length.
 // An answer's refusal is 0, or the refusal's number; then all else in it is 0 but the place of the source that it concerns, if any,
 // and nothing lent was changed. Where no refusal concerns a source of a list, the answer has no place.
+use blanking::Blanking;
+use blanking::Guard;
 use hits::FirstHit;
 use hits::Listing;
 use map::Added;
@@ -20,10 +22,11 @@ ghost use Rattle.scope.specs.Run.{runWith};
 ghost use Rattle.vectors.specs.Promise.{VectorsPromise};
 ghost use Rattle.hits.specs.Promise.{FirstHitPromise, ListingPromise};
 ghost use Rattle.map.specs.Promise.{MapPromise};
+ghost use Rattle.blanking.specs.Promise.{BlankingPromise};
 ghost use Rattle.saved.specs.Promise.{SavingPromise, ReadingPromise};
 ghost use Rattle.text.specs.Promise.{TextPromise};
 ghost use Rattle.exports.specs.Promise.{Exported};
-ghost use Rattle.exports.specs.Replies.{tellPlace, tellSteps, tellFirst, tellListing, tellAdded, tellSaved, tellLoaded, tellAnswer, tellTextPlace, tellText};
+ghost use Rattle.exports.specs.Replies.{tellPlace, tellSteps, tellFirst, tellListing, tellAdded, tellBlanking, tellSaved, tellLoaded, tellAnswer, tellTextPlace, tellText};
 
 // The step vectors.
 #[repr(C)]
@@ -66,6 +69,14 @@ pub struct AddedReply {
     pub refusal: u8,
     // The place of the source at fault, counted from 1; 0 where the refusal concerns none.
     pub place: u64,
+}
+
+// What the blanking call came to.
+#[repr(C)]
+pub struct BlankingReply {
+    pub refusal: u8,
+    // How many stretches were written, two numbers each.
+    pub count: usize,
 }
 
 // A run that was read from a file or a text.
@@ -193,6 +204,19 @@ fn tell_added(reply: Added) -> AddedReply
         Added::Refused(reason, place) => AddedReply {
             refusal: number_of(reason),
             place: tell_place(place),
+        },
+    }
+}
+
+// What the blanking call came to, in numbers.
+fn tell_blanking(reply: Blanking) -> BlankingReply
+    ensures { λ r. ⌜ r ≡ tellBlanking reply ⌝ }
+{
+    match reply {
+        Blanking::Done(count) => BlankingReply { refusal: 0, count },
+        Blanking::Refused(reason, _) => BlankingReply {
+            refusal: number_of(reason),
+            count: 0,
         },
     }
 }
@@ -335,6 +359,26 @@ pub extern "C" fn zenithgong_add_to_map(
 {
     let run = run_with(window, interval, first, last);
     tell_added(map::add_to_map(run, periods, weights, map))
+}
+
+// Public operation: `blanking::list_stretches` for the run with these four numbers and the guard with these two offsets, its reply in
+// numbers.
+#[no_mangle]
+pub extern "C" fn zenithgong_list_stretches(
+    window: u32,
+    interval: u32,
+    first: u32,
+    last: u32,
+    map: &[u8],
+    threshold: u8,
+    lowest: i64,
+    highest: i64,
+    room: &mut [u32],
+) -> BlankingReply
+    ensures { λ r. ⌜ Exported (λ reply. BlankingPromise (runWith window interval first last) (now (map .entry)) threshold (record { lowest = lowest; highest = highest }) (now (room .entry)) reply (now (room .exit))) tellBlanking r ⌝ }
+{
+    let run = run_with(window, interval, first, last);
+    tell_blanking(blanking::list_stretches(run, map, threshold, Guard { lowest, highest }, room))
 }
 
 // Public operation: `saved::save` for the run with these four numbers. 0 when done, else the refusal's number.

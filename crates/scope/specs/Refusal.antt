@@ -1,4 +1,4 @@
--- Document 01, "The refusal numbers", and request E1: why a call is refused, and where; and the tests that runs and sources pass in
+-- Document 01, "The refusal numbers", and requests E1 and E3: why a call is refused, and where; and the tests that runs and sources pass in
 -- every call.
 use Prim.Native.Nat.{ℕ, _%_}
 use mathlib.Core.Path.{_≡_}
@@ -9,12 +9,12 @@ use lib.Dec.{ltb, eqb}
 use Rattle.scope.specs.declared.Run.{Run}
 use Rattle.scope.specs.declared.Source.{Source}
 use Rattle.scope.specs.declared.Reason.{Reason}
-use Rattle.scope.specs.declared.Reason.the-variants.{Window, LineOrder, LastLine, Interval, Period, Remainder, WiderThanPeriod, Weight, Start, Room, Lists, Text, TooMany, FileBlocks, Check, Layout}
+use Rattle.scope.specs.declared.Reason.the-variants.{Window, LineOrder, LastLine, Interval, Period, Remainder, WiderThanPeriod, Weight, Start, Room, Lists, Text, TooMany, FileBlocks, Check, Layout, Threshold, Guard, StretchRoom}
 use Rattle.scope.specs.declared.Place.{Place}
 use Rattle.scope.specs.declared.Place.the-variants.{Nowhere, AtSource}
 
--- The number of each reason. In quotes above it: when it is given, from 01's table, and for 17 and 18 from request E1: "Split it: ..
--- last line before the first, last line above the limit"; "in the place of 2".
+-- The number of each reason. In quotes above it: when it is given, from 01's table, for 17 and 18 from request E1: "Split it: ..
+-- last line before the first, last line above the limit"; "in the place of 2"; and for 19 to 21 from request E3.
 abbrev pub number : Reason → ℕ
 -- "window odd, below 2 or above 4,096"
 number Window = 1
@@ -48,6 +48,12 @@ number FileBlocks = 13
 number Check = 14
 -- "saved file: version, spare byte or filling not as laid down"
 number Layout = 15
+-- "threshold 0"
+number Threshold = 19
+-- "guard outside the window or upside down"
+number Guard = 20
+-- "exactly when the room holds fewer stretches than there are"
+number StretchRoom = 21
 
 -- "2, which is no longer given" (E1); "16 is shown never to occur and is taken out" (E2).
 abbrev pub Withdrawn : ℕ → Type 0
@@ -60,7 +66,7 @@ pub record Complaint : Type 0 where
 
 infix 45 _when_
 infixl 40 _andThen_
--- The tests of a call, written in the order of 01's paragraph "Order".
+-- The tests of a call, written in the order of 01's paragraph "Order", or of the request that the call comes from.
 pub data Tests : Type 0 where
   -- one test: the reason is given when this is so
   _when_ : Reason → Bool → Tests

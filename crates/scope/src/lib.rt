@@ -62,6 +62,12 @@ pub enum Reason {
     Check,
     // A version, a spare byte or the filling of the saved file is not as laid down.
     Layout,
+    // The threshold is 0.
+    Threshold,
+    // The guard reaches outside the window or is upside down.
+    Guard,
+    // The room holds fewer stretches than there are.
+    StretchRoom,
 }
 
 // What a refusal concerns.
@@ -101,6 +107,9 @@ pub fn number_of(reason: Reason) -> u8
         Reason::FileBlocks => 13,
         Reason::Check => 14,
         Reason::Layout => 15,
+        Reason::Threshold => 19,
+        Reason::Guard => 20,
+        Reason::StretchRoom => 21,
     }
 }
 

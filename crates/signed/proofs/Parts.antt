@@ -2,13 +2,14 @@
 -- For linear facts: `omega (arith, parts, sum x y)` reads and proves the orders of ℤ by the rules of `parts`.
 -- Assumes nothing.
 use mathlib.Core.Path.{_≡_, refl, sym, ap, subst}
+use mathlib.Core.Logic.{_↔_}
 use Prim.Native.Nat.{ℕ, zero, suc, _+_, _*_, _^_, _≤_, _<_, min, max}
 use native.Mathlib.Omega.{arith}
 use native.Mathlib.Decide.{decLt}
 use mathlib.Core.Bool.{Bool, true, false, not}
 use lib.Dec.{T, leb→le, le→leb, ltb→lt, lt→ltb}
 use lib.IntN.{ℤ, pos, negsuc, negℤ, natAbs, subℕ, _+ℤ_, _*ℤ_}
-use lib.Signed.{_≤ℤ_, _<ℤ_, ltZ, ltZ-no}
+use lib.Signed.{_≤ℤ_, _<ℤ_, ltZ, leZ, ltZ-no}
 use borrow.Author.Tests.{lt-ltb, le-ltb}
 use mir.Syntax.{w64}
 use mir.Val.{SFits}
@@ -111,6 +112,17 @@ ltZ-parts x y e = lt-parts x y (ltZ-true x y e)
 
 pub not-ltZ-parts : (x y : ℤ) → ltZ x y ≡ false → up y + dn x ≤ up x + dn y
 not-ltZ-parts x y e = le-parts y x (ltZ-false x y e)
+
+-- a test is true exactly if the order holds
+holds : (t : Bool) → T t → t ≡ true
+holds true h = refl
+holds false h = absurd h
+
+pub ltZ-order : (x y : ℤ) → (ltZ x y ≡ true) ↔ (x <ℤ y)
+ltZ-order x y = (ltZ-true x y, λ h. holds (ltZ x y) (h .lt))
+
+pub leZ-order : (x y : ℤ) → (leZ x y ≡ true) ↔ (x ≤ℤ y)
+leZ-order x y = (λ e. record { le = subst T (sym e) tt }, λ h. holds (leZ x y) (h .le))
 
 -- z is held by 64 bits
 pub fits-parts : (z : ℤ) → SFits w64 z → max (suc (up z)) (dn z) ≤ 2 ^ 63

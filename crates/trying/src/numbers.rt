@@ -123,6 +123,19 @@ pub fn same_longs(a: &[u64], b: &[u64]) -> bool {
     all == b.len()
 }
 
+// The same of two lists of numbers of 32 bits.
+pub fn same_numbers(a: &[u32], b: &[u32]) -> bool {
+    let all = a.len();
+    let mut k: usize = 0;
+    while k < all {
+        if a[k] != number_at(b, k) {
+            return false;
+        }
+        k += 1;
+    }
+    all == b.len()
+}
+
 // The random number after this one: Marsaglia's xorshift of 64 bits, so that a program draws the same each time.
 pub fn next(state: u64) -> u64 {
     let a = state ^ (state << 13);

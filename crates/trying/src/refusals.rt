@@ -22,6 +22,9 @@ fn number_of(reason: Reason) -> u8 {
         Reason::Layout => 15,
         Reason::LineOrder => 17,
         Reason::LastLine => 18,
+        Reason::Threshold => 19,
+        Reason::Guard => 20,
+        Reason::StretchRoom => 21,
     }
 }
 

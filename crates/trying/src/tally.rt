@@ -5,7 +5,7 @@ use crate::reference;
 use crate::reference::Refusal;
 use scope::Run;
 
-// The lines.
+// The lines of crate trial. Another program has its own.
 pub const VECTORS: usize = 0;
 
 pub const FIRST_HIT: usize = 1;

@@ -1,6 +1,7 @@
-//! Document 01, as request E1 of 02 has changed it, once more: written from their text and not from the library's code. Hits
+//! Document 01, with the requests E1 to E3 of 02, once more: written from their text and not from the library's code. Hits
 //! are found by looking at every cell, or in long runs at every line; step vectors by trying all vectors, or for long periods
-//! by 01's conditions on what was answered. The numbers of runs, cells and vectors are i128. An answer is `Ok`, a refusal `Err`.
+//! by 01's conditions on what was answered; stretches by looking at every cell. The numbers of runs, cells, vectors and guards
+//! are i128. An answer is `Ok`, a refusal `Err`.
 
 #[derive(Clone, Copy, Debug, PartialEq, Eq)]
 pub struct Run {
@@ -243,6 +244,64 @@ pub fn add_to_map(
         *cell = sum.min(255) as u8;
     }
     Ok(())
+}
+
+/// E3: "a guard part of the window (lowest and highest offset)".
+#[derive(Clone, Copy, Debug, PartialEq, Eq)]
+pub struct Guard {
+    pub lowest: i128,
+    pub highest: i128,
+}
+
+impl Guard {
+    /// "20 guard outside the window or upside down": an offset that is none of the window's, or the lowest above the highest.
+    fn judge(&self, window: i128) -> Reply<()> {
+        let offsets = -window / 2..window / 2;
+        let outside = !offsets.contains(&self.lowest) || !offsets.contains(&self.highest);
+        refuse_if(outside || self.lowest > self.highest, 20)
+    }
+
+    /// Whether a line of these cells has "a guard cell at or above the threshold".
+    fn is_reached(&self, line: &[u8], threshold: u8) -> bool {
+        let left = -(line.len() as i128) / 2;
+        (left..)
+            .zip(line)
+            .any(|(i, &cell)| self.lowest <= i && i <= self.highest && cell >= threshold)
+    }
+}
+
+/// "The maximal stretches of consecutive lines that each have a guard cell at or above the threshold", rising: a line goes to
+/// the stretch before it, if that ends on the line before, or begins one. The map has the run's cells.
+fn stretches(run: &Run, map: &[u8], threshold: u8, guard: &Guard) -> Vec<[u32; 2]> {
+    let mut stretches: Vec<[u32; 2]> = Vec::new();
+    let lines = (run.first as u32..).zip(map.chunks(run.window as usize));
+    for (line, _) in lines.filter(|(_, cells)| guard.is_reached(cells, threshold)) {
+        match stretches.last_mut() {
+            Some([_, last]) if *last + 1 == line => *last = line,
+            _ => stretches.push([line, line]),
+        }
+    }
+    stretches
+}
+
+/// The count of the stretches, and what the room then holds: "first and last line as two 32-bit numbers each".
+pub fn list_stretches(
+    run: &Run,
+    map: &[u8],
+    threshold: u8,
+    guard: &Guard,
+    room: &mut [u32],
+) -> Reply<usize> {
+    run.judge()?;
+    refuse_if(threshold == 0, 19)?;
+    guard.judge(run.window)?;
+    refuse_if(map.len() as i128 != run.cells(), 9)?;
+    let stretches = stretches(run, map, threshold, guard);
+    refuse_if(room.len() / 2 < stretches.len(), 21)?;
+    for (place, &line) in room.iter_mut().zip(stretches.iter().flatten()) {
+        *place = line;
+    }
+    Ok(stretches.len())
 }
 
 /// "Check = 1 + sum of (k+1)·byte k for k = 0..507."

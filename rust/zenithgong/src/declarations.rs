@@ -42,6 +42,13 @@ pub struct AddedReply {
     pub place: u64,
 }
 
+/// What the blanking call came to: how many stretches were written, two numbers each.
+#[repr(C)]
+pub struct BlankingReply {
+    pub refusal: u8,
+    pub count: usize,
+}
+
 /// A run that was read.
 #[repr(C)]
 pub struct RunReply {
@@ -97,6 +104,20 @@ extern "C" {
         map: *mut u8,
         map_length: usize,
     ) -> AddedReply;
+
+    pub fn zenithgong_list_stretches(
+        window: u32,
+        interval: u32,
+        first: u32,
+        last: u32,
+        map: *const u8,
+        map_length: usize,
+        threshold: u8,
+        lowest: i64,
+        highest: i64,
+        room: *mut u32,
+        room_length: usize,
+    ) -> BlankingReply;
 
     pub fn zenithgong_save(
         window: u32,

@@ -6,8 +6,8 @@
 pub mod declarations;
 
 use declarations::{
-    zenithgong_add_to_map, zenithgong_first_hit, zenithgong_list_hits, zenithgong_read,
-    zenithgong_read_text, zenithgong_save, zenithgong_step_vectors, RunReply,
+    zenithgong_add_to_map, zenithgong_first_hit, zenithgong_list_hits, zenithgong_list_stretches,
+    zenithgong_read, zenithgong_read_text, zenithgong_save, zenithgong_step_vectors, RunReply,
 };
 use std::fmt;
 
@@ -51,6 +51,13 @@ pub enum Listing {
     More(usize, u64),
 }
 
+/// A guard part of the window: its lowest and its highest offset, which both belong to it.
+#[derive(Clone, Copy, Debug, PartialEq, Eq)]
+pub struct Guard {
+    pub lowest: i64,
+    pub highest: i64,
+}
+
 /// What a text says: a run, and its sources by period and weight.
 #[derive(Clone, Debug, PartialEq, Eq)]
 pub struct Input {
@@ -84,6 +91,9 @@ fn reason(number: u8) -> &'static str {
         15 => "a version, spare byte or filling of the file is not as laid down",
         17 => "the last line is before the first",
         18 => "the last line is above 16,777,216",
+        19 => "the threshold is 0",
+        20 => "the guard reaches outside the window or is upside down",
+        21 => "the room holds fewer stretches than there are",
         _ => "unknown reason",
     }
 }
@@ -192,6 +202,33 @@ pub fn add_to_map(
         )
     };
     unless_at_fault(reply.refusal, reply.place, ())
+}
+
+/// Writes the maximal stretches of consecutive lines of a run that each have a guard cell of its map at or above the threshold
+/// into a room, in rising order, the first and the last line of each. The answer is their count.
+pub fn list_stretches(
+    run: Run,
+    map: &[u8],
+    threshold: u8,
+    guard: Guard,
+    room: &mut [u32],
+) -> Result<usize, Refusal> {
+    let reply = unsafe {
+        zenithgong_list_stretches(
+            run.window,
+            run.interval,
+            run.first,
+            run.last,
+            map.as_ptr(),
+            map.len(),
+            threshold,
+            guard.lowest,
+            guard.highest,
+            room.as_mut_ptr(),
+            room.len(),
+        )
+    };
+    unless_refused(reply.refusal, reply.count)
 }
 
 /// Writes a run and its map into a file room.

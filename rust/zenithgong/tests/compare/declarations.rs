@@ -1,7 +1,7 @@
 //! Nothing else holds the declarations to the Rattle source: its exported functions and the structs that they
 //! answer with are read here, and must be what `declarations.rs` has, in the same order.
 use std::mem::size_of;
-use zenithgong::declarations::{AddedReply, RunReply, TextReply};
+use zenithgong::declarations::{AddedReply, BlankingReply, RunReply, TextReply};
 
 const RATTLE: &str = include_str!("../../../../crates/exports/src/lib.rt");
 const RUST: &str = include_str!("../../src/declarations.rs");
@@ -81,11 +81,17 @@ fn declarations_are_the_exports() {
     let exported = functions(&rattle, "#[no_mangle] pub extern \"C\" fn ", " ensures");
     assert_eq!(functions(&rust, "pub fn ", ";"), exported);
     assert_eq!(exported.len(), rattle.matches("no_mangle").count());
-    assert!(exported.len() >= 7);
+    assert!(exported.len() >= 8);
     for (name, _, answer) in &exported {
         let known = answers.iter().any(|(struct_name, _)| struct_name == answer);
         assert!(known || answer == "u8", "{} answers with {}", name, answer);
     }
+}
+
+/// The blanking list's answer has 16 bytes, which come in two registers.
+#[test]
+fn answer_with_a_count_has_its_size() {
+    assert_eq!(size_of::<BlankingReply>(), 16);
 }
 
 /// The answers that carry a place: 16 bytes, which come in two registers, and a text's 24 with its run, 8, 8, and the lists.

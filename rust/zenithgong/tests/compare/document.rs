@@ -1,8 +1,9 @@
-//! The bench figures of document 01, examples of request E1's refusals and of request E2's runs, and the words of all refusals.
+//! The bench figures of document 01, examples of request E1's refusals, of request E2's runs and of request E3's stretches, and
+//! the words of all refusals.
 use crate::library::*;
 use crate::support::{trials, wide};
 use crate::{files, texts};
-use zenithgong::{FirstHit, Input, Listing, Refusal, Run, Steps, Vector};
+use zenithgong::{FirstHit, Guard, Input, Listing, Refusal, Run, Steps, Vector};
 
 /// A refusal that concerns no source of a list.
 fn alone<T>(number: u8) -> Result<T, Refusal> {
@@ -126,6 +127,9 @@ fn line_limits_of_the_request() {
             assert_eq!(first_hit(run, 0, u64::MAX), alone(number));
             assert_eq!(list_hits(run, 0, u64::MAX, &mut []), alone(number));
             assert_eq!(add_to_map(run, &[0], &[0, 0], &mut []), alone(number));
+            let (lowest, highest) = (1, 0);
+            let guard = Guard { lowest, highest };
+            assert_eq!(list_stretches(run, &[], 0, guard, &mut []), alone(number));
             assert_eq!(save(run, &[], &mut []), alone(number));
             text_says(&format!("run 4 0 {} {}\n", first, last), alone(number));
             let file = reference::file_of(&wide(run), &[0; 20]);
@@ -217,6 +221,73 @@ fn ends_of_runs_from_line_0() {
     });
 }
 
+/// A blanking list of the document's run: what is answered, and what a room of so many nines then holds.
+fn blanking(
+    map: &[u8],
+    threshold: u8,
+    (lowest, highest): (i64, i64),
+    length: usize,
+) -> (Result<usize, Refusal>, Vec<u32>) {
+    let mut room = vec![9; length];
+    let guard = Guard { lowest, highest };
+    let answer = list_stretches(BENCH, map, threshold, guard, &mut room);
+    (answer, room)
+}
+
+/// The document's map, by the library.
+fn bench_map() -> [u8; 20] {
+    let mut map = [0; 20];
+    add_to_map(BENCH, &[7, 3], &[60, 200], &mut map).unwrap();
+    map
+}
+
+/// The example of request E3: the blanking lists of the document's map. All lines reach 200, none reaches 255 at offset 1.
+#[test]
+fn stretches_of_the_request() {
+    trials("the request's stretches", 1, |_| {
+        let map = bench_map();
+        let list = |threshold, guard, length| blanking(&map, threshold, guard, length);
+        assert_eq!(list(255, (-2, 1), 4), (Ok(2), vec![2, 2, 4, 4]));
+        assert_eq!(list(255, (-2, 1), 6), (Ok(2), vec![2, 2, 4, 4, 9, 9]));
+        assert_eq!(list(255, (-2, 1), 3), (alone(21), vec![9; 3]));
+        assert_eq!(list(200, (-2, -2), 5), (Ok(2), vec![1, 1, 4, 4, 9]));
+        assert_eq!(list(200, (-2, 1), 2), (Ok(1), vec![1, 5]));
+        assert_eq!(list(200, (-2, 1), 1), (alone(21), vec![9]));
+        assert_eq!(list(200, (-1, 0), 4), (Ok(2), vec![2, 3, 5, 5]));
+        assert_eq!(list(255, (1, 1), 0), (Ok(0), vec![]));
+        assert_eq!(list(255, (1, 1), 1), (Ok(0), vec![9]));
+    });
+}
+
+/// Its refusals, each before what comes later in the order, and a room left as it was.
+#[test]
+fn refused_stretches_of_the_request() {
+    trials("the request's refused stretches", 1, |_| {
+        let map = bench_map();
+        let list = |cells, threshold, guard| blanking(&map[..cells], threshold, guard, 1);
+        let outside = [
+            (-2, 2),
+            (-3, 1),
+            (1, 0),
+            (2, 2),
+            (-3, -3),
+            (i64::MIN, 1),
+            (-2, i64::MAX),
+            (i64::MIN, i64::MAX),
+            (i64::MAX, i64::MIN),
+        ];
+        for guard in outside {
+            assert_eq!(list(20, 255, guard), (alone(20), vec![9]), "{:?}", guard);
+            assert_eq!(list(19, 255, guard), (alone(20), vec![9]), "{:?}", guard);
+            assert_eq!(list(19, 0, guard), (alone(19), vec![9]), "{:?}", guard);
+        }
+        assert_eq!(list(20, 0, (-2, 1)), (alone(19), vec![9]));
+        assert_eq!(list(19, 0, (-2, 1)), (alone(19), vec![9]));
+        assert_eq!(list(19, 255, (-2, 1)), (alone(9), vec![9]));
+        assert_eq!(list(20, 255, (-2, 1)), (alone(21), vec![9]));
+    });
+}
+
 #[test]
 fn places_of_the_request() {
     trials("the request's places", 1, |_| {
@@ -257,12 +328,12 @@ fn reason(number: u8) -> String {
     words.strip_prefix(&start).unwrap().to_string()
 }
 
-/// There are words for all numbers that are given, which are those up to 18 without 2 and 16, and no two share them.
+/// There are words for all numbers that are given, which are those up to 21 without 2 and 16, and no two share them.
 #[test]
 fn every_refusal_has_its_words() {
     let unknown = reason(0);
-    for number in 1..=19 {
-        let given = ![2, 16, 19].contains(&number);
+    for number in 1..=22 {
+        let given = ![2, 16, 22].contains(&number);
         assert_eq!(reason(number) != unknown, given, "{}", number);
         for other in 1..number {
             let same = reason(other) == reason(number);

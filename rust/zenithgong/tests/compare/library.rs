@@ -1,6 +1,6 @@
 //! The library's operations under their own names, each call counted: the tests call no other way.
 use std::cell::Cell;
-use zenithgong::{FirstHit, Input, Listing, Refusal, Run, Steps};
+use zenithgong::{FirstHit, Guard, Input, Listing, Refusal, Run, Steps};
 
 thread_local! {
     static CALLS: Cell<u64> = const { Cell::new(0) };
@@ -35,6 +35,16 @@ pub fn add_to_map(
     map: &mut [u8],
 ) -> Result<(), Refusal> {
     counted(zenithgong::add_to_map(run, periods, weights, map))
+}
+
+pub fn list_stretches(
+    run: Run,
+    map: &[u8],
+    threshold: u8,
+    guard: Guard,
+    room: &mut [u32],
+) -> Result<usize, Refusal> {
+    counted(zenithgong::list_stretches(run, map, threshold, guard, room))
 }
 
 pub fn save(run: Run, map: &[u8], file: &mut [u8]) -> Result<(), Refusal> {

@@ -1,10 +1,13 @@
 //! Every set of faults of every call, each fault in one of its forms, and everything else at an end of its range or small. What
-//! is expected is the reference's, which takes the tests in 01's order, with E1's line limits and places of sources.
+//! is expected is the reference's, which takes the tests in 01's order, with E1's line limits and places of sources, and those of
+//! the blanking list in E3's.
+use crate::blanking::{self, Asked};
 use crate::support::{trials, wide, Random};
 use crate::{files, hits, maps, texts, vectors};
-use zenithgong::Run;
+use std::cell::RefCell;
+use zenithgong::{Guard, Run};
 
-/// The faults of a run are the first three bits of every set but the vectors'.
+/// The faults of a run are the first three bits of every set but the vectors' and the blanking list's.
 const RUN: u32 = 3;
 
 fn has(faults: u64, fault: u32) -> bool {
@@ -198,6 +201,115 @@ fn of_long_lists() {
             maps::compare(run(random, 0), &periods, &weights, Vec::new(), false);
         }
     });
+}
+
+/// E3's order. A set of the blanking list's faults has a bit for each of them.
+const STRETCHES: [u8; 8] = [1, 17, 18, 3, 19, 20, 9, 21];
+
+/// A run of up to four lines with the first four of these faults: the two line limits are told apart here.
+fn run_of_stretches(random: &mut Random, faults: u64) -> Run {
+    let good = [(0, 0), (0, 1), (1, 4), (LAST - 3, LAST), (LAST, LAST)];
+    let lines = match (has(faults, 1), has(faults, 2)) {
+        (false, false) => &good[..],
+        (true, false) => &BROKEN[..4],
+        (false, true) => &BROKEN[4..9],
+        (true, true) => &BROKEN[9..],
+    };
+    let (first, last) = lines[random.below(lines.len() as u64) as usize];
+    let interval = pick(random, &[1, u32::MAX]);
+    Run {
+        window: window(random, has(faults, 0)),
+        interval: if has(faults, 3) { 0 } else { interval },
+        first,
+        last,
+    }
+}
+
+/// A guard of a window; a bad one reaches outside on a side, by one or as far as numbers go, or is upside down.
+fn guard(random: &mut Random, bad: bool, window: u32) -> Guard {
+    let (left, right) = (-((window / 2) as i64), (window / 2) as i64 - 1);
+    let good = [(left, right), (left, left), (right, right), (0, 0)];
+    let outside = [
+        (left - 1, right),
+        (left, right + 1),
+        (right, right - 1),
+        (right, left - 1),
+        (right + 1, right + 1),
+        (i64::MIN, left),
+        (right, i64::MAX),
+        (i64::MAX, i64::MIN),
+    ];
+    let from = if bad { &outside[..] } else { &good[..] };
+    let (lowest, highest) = from[random.below(from.len() as u64) as usize];
+    Guard { lowest, highest }
+}
+
+/// The length of a room for so many stretches; a bad one lacks a number or two, or holds no stretch at all.
+fn room_for(random: &mut Random, bad: bool, stretches: u32) -> usize {
+    let exact = 2 * stretches;
+    let length = if bad {
+        pick(random, &[exact - 1, exact - 2, 0, 1])
+    } else {
+        pick(random, &[exact, exact + 1, exact + 5])
+    };
+    length as usize
+}
+
+/// A map of so many cells in which every second line, the first among them, is as large as can be, and the others are 0.
+fn striped(cells: usize, window: u32) -> Vec<u8> {
+    let window = window.max(1) as usize;
+    let mut map = vec![0; cells];
+    for two in map.chunks_mut(2 * window) {
+        let line = window.min(two.len());
+        two[..line].fill(255);
+    }
+    map
+}
+
+/// One blanking list with these faults, and the number of its refusal, or 0.
+fn stretches_refused(random: &mut Random, faults: u64) -> u8 {
+    let run = run_of_stretches(random, faults);
+    let threshold = pick(random, &[1, 128, 255]) as u8;
+    let asked = Asked {
+        run,
+        threshold: if has(faults, 4) { 0 } else { threshold },
+        guard: guard(random, has(faults, 5), run.window),
+    };
+    let cells = length(random, has(faults, 6), wide(run).cells(), 1);
+    let stretches = run.last.saturating_sub(run.first).min(3) / 2 + 1;
+    let room = room_for(random, has(faults, 7), stretches);
+    let said = blanking::compare(random, &asked, &striped(cells, run.window), room);
+    said.map_or_else(|refusal| refusal.number, |_| 0)
+}
+
+/// What is refused is the first fault of the set: so each number is given as often as there are sets that lack all before it.
+/// Of each number and the next in the order, there are calls with just these two as the first of their faults.
+#[test]
+fn of_stretches() {
+    let each = 64;
+    let (given, pairs) = (RefCell::new([0; 22]), RefCell::new([[0; 8]; 8]));
+    trials("faults of the blanking list", each * 256, |random| {
+        let faults = random.seed() % 256;
+        let mut found = (0..8).filter(|&fault| has(faults, fault as u32));
+        let (first, second) = (found.next(), found.next());
+        let number = stretches_refused(random, faults);
+        let first_number = first.map_or(0, |fault: usize| STRETCHES[fault]);
+        assert_eq!(number, first_number);
+        given.borrow_mut()[number as usize] += 1;
+        if let (Some(first), Some(second)) = (first, second) {
+            pairs.borrow_mut()[first][second] += 1;
+        }
+    });
+    let (given, pairs) = (given.into_inner(), pairs.into_inner());
+    assert_eq!(given[0], each);
+    for (fault, &number) in STRETCHES.iter().enumerate() {
+        assert_eq!(given[number as usize], each << (7 - fault), "{}", number);
+    }
+    for fault in 0..7 {
+        assert_eq!(pairs[fault][fault + 1], each << (6 - fault));
+    }
+    let two_or_more: u64 = pairs.iter().flatten().sum();
+    assert_eq!(two_or_more, each * (256 - 8 - 1));
 }
 
 #[test]

@@ -1,0 +1,5 @@
+pub mod Stretches
+pub mod Promise
+pub mod Table
+pub mod Meaning
+pub mod Inner
