@@ -1,14 +1,11 @@
 -- What the tests of a blanking call that need no look at the cells tell: run, threshold, guard and map are in order. Assumes nothing.
-use Prim.Native.Nat.{ℕ, _+_, _/_, _≤_}
+use Prim.Native.Nat.{ℕ, _/_, _≤_}
 use native.Mathlib.Omega.{arith}
-use mathlib.Core.Path.{_≡_, sym, _∙_}
-use mathlib.Core.Bool.{true, false, true≢false}
 use mathlib.Core.List.{List}
-use lib.IntN.{ℤ, pos, negℤ}
+use lib.IntN.{pos, negℤ}
 use lib.ListN.{length}
-use lib.Signed.{_<ℤ_, leZ}
 use borrow.Author.Tests.{eqb-false}
-use Rattle.signed.proofs.Parts.{up, dn, parts, parts-le, ltZ-false, leZ-order}
+use Rattle.signed.proofs.Parts.{parts, ltZ-false, leZ-false}
 use Rattle.scope.specs.declared.Run.{Run}
 use Rattle.scope.specs.Run.{cellsOf}
 use Rattle.scope.proofs.Judged.{Passes}
@@ -18,12 +15,6 @@ use Rattle.blanking.specs.declared.Guard.{Guard}
 use Rattle.blanking.specs.Promise.{guardTests, askedTests}
 use Rattle.blanking.specs.Inner.{Guarded}
 
--- a number that is not at or above another is below it
-not-above : (x y : ℤ) → leZ x y ≡ false → y <ℤ x
-not-above x y e =
-    let n : up x + dn y ≤ up y + dn x → ⊥ = λ h. true≢false (sym (leZ-order x y .1 (parts-le x y h)) ∙ e) in
-    omega (arith, parts, n)
-
 pub guarded : {run : Run} {map : List ℕ} {threshold : ℕ} {guard : Guard} → run .interval ≤ 4294967295 → Passes (askedTests run map threshold guard) → Guarded run map threshold guard
 unfolding askedTests guardTests
 guarded {run} {map} {threshold} {guard} fits p =
@@ -32,7 +23,7 @@ guarded {run} {map} {threshold} {guard} fits p =
     let g = passes-then asked in
     let half = pos (run .window / 2) in
     let left = ltZ-false (guard .lowest) (negℤ half) (passes-when (passes-first (passes-first g))) in
-    let right = not-above half (guard .highest) (passes-when (passes-then (passes-first g))) in
+    let right = leZ-false half (guard .highest) (passes-when (passes-then (passes-first g))) in
     let upright = ltZ-false (guard .highest) (guard .lowest) (passes-when (passes-then g)) in
     record {
       valid = v;

@@ -1,11 +1,11 @@
 -- Which lines are blanked. Each is known to be or not, a blanked line is one of the run's, and on a line of the run the guard cells are a
--- part of the map, from the lowest offset's distance to the highest's. Assumes nothing.
+-- part of the map, from the lowest offset's distance to the highest's; and cells that are looked at part by part. Assumes nothing.
 use Prim.Native.Nat.{ℕ, zero, suc, _+_, _-_, _*_, _/_, _%_, _≤_, _<_}
 use native.Mathlib.Nat.{div-lt-iff-lt-mul, mul-le-mul-left, zero-mul}
 use native.Mathlib.Decide.{ℕ-discrete, decLe, decLt, map-dec}
 use native.Mathlib.Omega.{arith}
 use mathlib.Core.Path.{_≡_, refl, sym, ap, _∙_}
-use mathlib.Core.Logic.{_↔_, Dec·and}
+use mathlib.Core.Logic.{_↔_, Iff·trans, Dec·and}
 use mathlib.Core.Bool.{Bool, true, false, true≢false}
 use mathlib.Core.List.{List}
 use lib.IntN.{ℤ, pos, _+ℤ_}
@@ -14,25 +14,17 @@ use lib.Seq.{getD-take, getD-drop}
 use lib.Signed.{_≤ℤ_, leZ}
 use lib.Dec.{leb}
 use borrow.Author.Tests.{leb-true, le-leb}
-use Rattle.signed.proofs.Parts.{parts, sum, leZ-order}
+use Rattle.signed.proofs.Parts.{parts, sum, leZ-known}
 use Rattle.scope.specs.declared.Run.{Run}
 use Rattle.scope.specs.Run.{linesOf, cellsOf, lineOf, offsetOf}
 use Rattle.scope.proofs.Numbering.{offset-distance, cell-parts, line-at, distance-at}
 use Rattle.blanking.specs.declared.Guard.{Guard}
 use Rattle.blanking.specs.declared.Stretch.{Stretch}
 use Rattle.blanking.specs.Stretches.{Blanked, MaximalStretches}
-use Rattle.blanking.specs.Inner.{Guarded, Reaches, Largest}
+use Rattle.blanking.specs.Inner.{Within, Guarded, Reaches, Largest}
 use Rattle.blanking.proofs.Stretches.{stretches-exist}
 
 -- ---- every line is known to be blanked or not
-
--- an order of integers holds or does not
-order-known : (a b : ℤ) → Dec (a ≤ℤ b)
-order-known a b = go (leZ a b) (leZ-order a b)
-  where
-    go : (test : Bool) → (test ≡ true) ↔ (a ≤ℤ b) → Dec (a ≤ℤ b)
-    go true e = yes (e .0 refl)
-    go false e = no (λ h. true≢false (sym (e .1 h)))
 
 -- one of the numbers below n is so, or none is
 some-known : {So : ℕ → Type 0} → ((x : ℕ) → Dec (So x)) → (n : ℕ) → Dec ((x : ℕ) × (x < n) × So x)
@@ -54,7 +46,7 @@ module _ (run : Run) (map : List ℕ) (threshold : ℕ) (guard : Guard) where
       map-dec
       (λ s. record { cell = s .0; guarded = record { inside = s .1; on = s .2 .0; from = s .2 .1 .0; to = s .2 .1 .1 .0 }; reaches = s .2 .1 .1 .1 })
       (λ b. (b .cell, b .guarded .inside, (b .guarded .on, (b .guarded .from, (b .guarded .to, b .reaches)))))
-      (some-known (λ x. Dec·and (ℕ-discrete (lineOf run x) j) (Dec·and (order-known (guard .lowest) (offsetOf run x)) (Dec·and (order-known (offsetOf run x) (guard .highest)) (decLe threshold (getD map x 0))))) (cellsOf run))
+      (some-known (λ x. Dec·and (ℕ-discrete (lineOf run x) j) (Dec·and (leZ-known (guard .lowest) (offsetOf run x)) (Dec·and (leZ-known (offsetOf run x) (guard .highest)) (decLe threshold (getD map x 0))))) (cellsOf run))
 
 -- a line with a cell of the run is one of the run's
 line-inside : (run : Run) (x : ℕ) → x < cellsOf run → (run .first ≤ lineOf run x) × (lineOf run x ≤ run .last)
@@ -73,70 +65,6 @@ module _ {run : Run} {map : List ℕ} {threshold : ℕ} {guard : Guard} where
 pub blanked-stretches : (run : Run) (map : List ℕ) (threshold : ℕ) (guard : Guard) → (stretches : List Stretch) × MaximalStretches (Blanked run map threshold guard) stretches
 blanked-stretches run map threshold guard =
     stretches-exist (Blanked run map threshold guard) (blanked-known run map threshold guard) (suc (run .last)) (λ j b. omega (arith, blanked-inside j b .1))
-
--- ---- the guard cells of a line, as a part of the map
-
--- the line ends within the map
-pub line-fits : {run : Run} {map : List ℕ} {threshold : ℕ} {guard : Guard} → Guarded run map threshold guard → {j : ℕ} → run .first ≤ j → j ≤ run .last → (j - run .first) * run .window + run .window ≤ length map
-unfolding cellsOf linesOf
-line-fits {run} g {j} from to =
-    let lines = mul-le-mul-left {m = suc (j - run .first)} {n = suc (run .last) - run .first} (run .window) (omega arith) in
-    omega (arith, g .whole)
-
-module _ {run : Run} {map : List ℕ} {threshold : ℕ} {guard : Guard} (g : Guarded run map threshold guard) {a b : ℕ} (low : guard .lowest +ℤ pos (run .window / 2) ≡ pos a) (high : guard .highest +ℤ pos (run .window / 2) ≡ pos b) where
-  abbrev half : ℤ
-  half = pos (run .window / 2)
-
-  -- the distances of the guard
-  pub upright : a ≤ b
-  upright = omega (arith, parts, low, high, g .upright, sum (guard .lowest) half, sum (guard .highest) half)
-
-  pub wide : b < run .window
-  wide = omega (arith, parts, high, g .high .right, sum (guard .highest) half)
-
-  module _ {j : ℕ} (from : run .first ≤ j) (to : j ≤ run .last) where
-    -- the line is blanked exactly if one of these cells is at or above the threshold
-    pub line-reaches : {start end : ℕ} → start ≡ (j - run .first) * run .window + a → end ≡ (j - run .first) * run .window + b + 1 → Reaches (take (end - start) (drop start map)) threshold ↔ Blanked run map threshold guard j
-    line-reaches {start} {end} s e = (to-line, of-line)
-      where
-        cells : List ℕ
-        cells = take (end - start) (drop start map)
-
-        many : length cells ≡ b + 1 - a
-        many = simp (length-take, length-drop) (omega (arith, s, e, line-fits g from to, wide, upright))
-
-        at : (k : ℕ) → k < length cells → getD cells k 0 ≡ getD map (start + k) 0
-        at k h = getD-take (end - start) (drop start map) k 0 (omega (arith, many, s, e)) ∙ getD-drop start map k 0
-
-        to-line : Reaches cells threshold → Blanked run map threshold guard j
-        to-line r =
-            let d = a + r .0 in
-            let near : d < run .window = omega (arith, r .1, many, wide) in
-            let x = (j - run .first) * run .window + d in
-            let is : start + r .0 ≡ x = omega (arith, s) in
-            let far = offset-distance run x ∙ ap pos (distance-at run (j - run .first) near) in
-            record {
-              cell = x;
-              guarded = record {
-                inside = omega (arith, near, line-fits g from to, g .whole);
-                on = line-at run (j - run .first) near ∙ omega (arith, from);
-                from = omega (arith, parts, far, low, sum (offsetOf run x) half, sum (guard .lowest) half);
-                to = omega (arith, parts, far, high, r .1, many, sum (offsetOf run x) half, sum (guard .highest) half);
-              };
-              reaches = rw (at (r .0) (r .1), is) at (r .2);
-            }
-
-        of-line : Blanked run map threshold guard j → Reaches cells threshold
-        of-line l =
-            let x = l .cell in
-            let d = x % run .window in
-            let far = offset-distance run x in
-            let cell : (j - run .first) * run .window + d ≡ x = rw (l .guarded .on) at (cell-parts run x) in
-            let right : a ≤ d = omega (arith, parts, far, low, l .guarded .from, sum (offsetOf run x) half, sum (guard .lowest) half) in
-            let left : d ≤ b = omega (arith, parts, far, high, l .guarded .to, sum (offsetOf run x) half, sum (guard .highest) half) in
-            let inside : d - a < length cells = omega (arith, many, right, left) in
-            let is : start + (d - a) ≡ x = omega (arith, s, cell, right) in
-            (d - a, inside, rw (at (d - a) inside, is) (l .reaches))
 
 -- ---- cells looked at part by part
 
@@ -183,3 +111,56 @@ module _ {cells : List ℕ} {threshold at next top : ℕ} (some : 1 ≤ threshol
       found : Reaches cells threshold → Dec (threshold ≤ top) → threshold ≤ top
       found r (yes h) = h
       found r (no h) = absurd (part-missed (omega arith) .none (r .0) (omega (arith, r .1)) (r .2))
+
+-- ---- the guard cells of a line, as a part of the map
+
+-- the distance of an offset is less than the window
+pub near : {window : ℕ} {offset : ℤ} {d : ℕ} → Within window offset → offset +ℤ pos (window / 2) ≡ pos d → d < window
+near {window} {offset} w e = omega (arith, parts, w .right, e, sum offset (pos (window / 2)))
+
+-- the line ends within the map
+pub line-fits : {run : Run} {map : List ℕ} {threshold : ℕ} {guard : Guard} → Guarded run map threshold guard → {j : ℕ} → run .first ≤ j → j ≤ run .last → (j - run .first) * run .window + run .window ≤ length map
+unfolding cellsOf linesOf
+line-fits {run} g {j} from to =
+    let lines = mul-le-mul-left {m = suc (j - run .first)} {n = suc (run .last) - run .first} (run .window) (omega arith) in
+    omega (arith, g .whole)
+
+module _ {run : Run} {map : List ℕ} {threshold : ℕ} {guard : Guard} (g : Guarded run map threshold guard) {a b : ℕ} (low : guard .lowest +ℤ pos (run .window / 2) ≡ pos a) (high : guard .highest +ℤ pos (run .window / 2) ≡ pos b) where
+  abbrev half : ℤ
+  half = pos (run .window / 2)
+
+  -- the distances of the guard
+  pub upright : a ≤ b
+  upright = omega (arith, parts, low, high, g .upright, sum (guard .lowest) half, sum (guard .highest) half)
+
+  module _ {j : ℕ} (from : run .first ≤ j) (to : j ≤ run .last) where
+    -- the line is blanked exactly if one of these cells is at or above the threshold
+    pub line-reaches : {start end : ℕ} → start ≡ (j - run .first) * run .window + a → end ≡ (j - run .first) * run .window + b + 1 → Reaches (take (end - start) (drop start map)) threshold ↔ Blanked run map threshold guard j
+    line-reaches {start} {end} s e = Iff·trans (part-reaches map start end threshold (omega (arith, s, e, upright)) (omega (arith, e, line-fits g from to, near (g .high) high))) (to-line, of-line)
+      where
+        to-line : (k : ℕ) × (start ≤ k) × (k < end) × (threshold ≤ getD map k 0) → Blanked run map threshold guard j
+        to-line r =
+            let before = j - run .first in
+            let d = r .0 - before * run .window in
+            let is : before * run .window + d ≡ r .0 = omega (arith, r .1, s) in
+            let within : d < run .window = omega (arith, r .1, r .2, s, e, near (g .high) high) in
+            let far = offset-distance run (r .0) ∙ ap (λ x. pos (x % run .window)) (sym is) ∙ ap pos (distance-at run before within) in
+            record {
+              cell = r .0;
+              guarded = record {
+                inside = omega (arith, within, is, line-fits g from to, g .whole);
+                on = ap (lineOf run) (sym is) ∙ line-at run before within ∙ omega (arith, from);
+                from = omega (arith, parts, far, low, r .1, s, sum (offsetOf run (r .0)) half, sum (guard .lowest) half);
+                to = omega (arith, parts, far, high, r .1, r .2, s, e, sum (offsetOf run (r .0)) half, sum (guard .highest) half);
+              };
+              reaches = r .3;
+            }
+
+        of-line : Blanked run map threshold guard j → (k : ℕ) × (start ≤ k) × (k < end) × (threshold ≤ getD map k 0)
+        of-line l =
+            let x = l .cell in
+            let far = offset-distance run x in
+            let cell : (j - run .first) * run .window + x % run .window ≡ x = rw (l .guarded .on) at (cell-parts run x) in
+            let right : a ≤ x % run .window = omega (arith, parts, far, low, l .guarded .from, sum (offsetOf run x) half, sum (guard .lowest) half) in
+            let left : x % run .window ≤ b = omega (arith, parts, far, high, l .guarded .to, sum (offsetOf run x) half, sum (guard .highest) half) in
+            (x, omega (arith, s, cell, right), omega (arith, e, cell, left), l .reaches)

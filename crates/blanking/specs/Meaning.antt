@@ -1,5 +1,5 @@
--- Request E3, what a blanking list tells its reader, by the map's definition alone: which lines it lists, and which lines have sources
--- that hit them so hard.
+-- Request E3, what a blanking list tells its reader, by the map's definition alone: which lines a room lists, and which lines have a
+-- guard cell whose hits' weights sum to the threshold or more.
 use Prim.Native.Nat.{ℕ, _+_, _*_, _≤_, _<_}
 use mathlib.Core.List.{List}
 use lib.ListN.{getD}

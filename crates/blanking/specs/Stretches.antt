@@ -41,7 +41,7 @@ abbrev pub AllMaximal : (ℕ → Type 0) → List Stretch → Type 0
 AllMaximal So [] = Unit {0}
 AllMaximal So (stretch ∷ stretches) = Maximal So stretch × AllMaximal So stretches
 
--- "rising": each stretch of a list ends before the next begins. Between the two lies a line, since both are maximal: they do not touch.
+-- "rising": each stretch of a list ends before the next begins, and a line lies between the two: they do not touch.
 abbrev pub Rising : List Stretch → Type 0
 Rising [] = Unit {0}
 Rising (stretch ∷ []) = Unit {0}

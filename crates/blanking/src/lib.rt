@@ -35,10 +35,10 @@ pub enum Blanking {
     Refused(Reason, Place),
 }
 
-// So many cells are looked at in one go.
+// So many cells are looked at in one go: as many as a vector register holds.
 const GROUP: usize = 16;
 
-// What the table says of a guard: that it does not reach outside the window on either side and is not upside down.
+// What the table says of a guard: whether it reaches outside the window, to the left or to the right, or is upside down.
 fn judge_guard(window: u32, guard: Guard) -> Verdict
     ensures { λ r. ⌜ r ≡ verdict (complaint (guardTests window guard)) ⌝ }
 {
@@ -83,8 +83,8 @@ fn distance(window: u32, offset: i64) -> usize
     (offset + (window / 2) as i64) as usize
 }
 
-// The largest of these cells, 0 where there is none. Of a fixed number of cells it takes the processor a few instructions, since no
-// cell has to wait for the one before.
+// The largest of these cells, 0 where there is none. Of a fixed number of cells the compiler makes a few vector instructions of it, since
+// it does not matter in which order they are taken.
 fn largest(cells: &[u8]) -> u8
     ensures { λ r. ⌜ Largest (now (cells .entry)) r ⌝ }
 {
@@ -149,6 +149,7 @@ fn next_stretch(run: Run, map: &[u8], threshold: u8, guard: Guard, line: u32) ->
     requires { ⌜ Guarded run (now map) threshold guard × (run .first ≤ line) × (line ≤ run .last + 2) ⌝ }
     ensures { λ r. ⌜ NextStretch run (Blanked run (now (map .entry)) threshold guard) line r ⌝ }
 {
+    // the first line that is blanked, and after it the first that is not
     let first = next_line(run, map, threshold, guard, line, true);
     let end = next_line(run, map, threshold, guard, first + 1, false);
     Stretch {

@@ -4,30 +4,34 @@ use Prim.Native.Nat.{ℕ, suc, _+_, _-_, _*_, _%_, _≤_, _<_}
 use native.Mathlib.Nat.{mod-lt, mul-le-mul-right}
 use native.Mathlib.Decide.{decLe}
 use native.Mathlib.Omega.{arith}
-use mathlib.Core.Path.{_≡_, refl, sym, _∙_}
+use mathlib.Core.Path.{_≡_, refl, sym, ap, _∙_}
 use mathlib.Core.Logic.{_↔_, inl, inr}
 use mathlib.Core.List.{List, [], _∷_, _++_, append-assoc}
-use lib.ListN.{length, getD, length-append, List·getD-append}
-use lib.Seq.{getD-append-add}
+use lib.ListN.{length, getD, take, drop, length-append, length-drop, take-append-drop, List·getD-append}
+use lib.Seq.{getD-append-add, length-take-le}
 use Rattle.rooms.specs.Lists.{zeros}
+use Rattle.rooms.proofs.Lists.{length-zeros}
 use Rattle.scope.specs.declared.Run.{Run}
 use Rattle.scope.specs.Run.{ValidRun, linesOf, cellsOf, shiftOf}
 use Rattle.scope.specs.Inner.{IsBlock}
-use Rattle.scope.proofs.Numbering.{cell-parts, line-shift, offset-shift}
+use Rattle.scope.proofs.Numbering.{cell-parts, line-shift, offset-shift, valid-block}
 use Rattle.sources.specs.Entry.{entriesOf}
 use Rattle.map.specs.declared.Added.the-variants.{Done as Done·added}
 use Rattle.map.specs.Promise.{MapPromiseAt}
 use Rattle.blanking.specs.declared.Guard.{Guard}
 use Rattle.blanking.specs.declared.Blanking.the-variants.{Done}
 use Rattle.blanking.specs.Stretches.{Blanked}
-use Rattle.blanking.specs.Promise.{BlankingPromise}
-use Rattle.blanking.specs.Table.{HoldsFewer}
+use Rattle.blanking.specs.Promise.{written, BlankingPromise}
+use Rattle.blanking.specs.Table.{BadGuard, HoldsFewer}
 use Rattle.blanking.specs.Meaning.{ListedIn, Disturbed}
-use Rattle.blanking.proofs.Guarding.{blanked-inside}
+use Rattle.blanking.proofs.Guarding.{blanked-inside, blanked-stretches}
+use Rattle.blanking.proofs.Table.{blanking-renders}
+use Rattle.blanking.proofs.Unique.{granted-call}
 use Rattle.blanking.proofs.Meaning as Meaning
 use Rattle.demands.specs.Cut.{Piece, CutFrom, Cut}
 use Rattle.demands.specs.Blanking.{BlockList, BlockLists, partsOf, ListedInOne}
-use Rattle.demands.proofs.Cuts.{piece-is, before, before-within, before-first, before-piece, before-next}
+use Rattle.demands.proofs.Cuts.{piece-is, before, before-within, before-first, before-end, before-piece, before-next}
+use Rattle.demands.proofs.Demand1.{blanking-silent}
 
 -- The lines in the stretches that a call wrote are the lines with a guard cell at or above the threshold.
 pub listed-blanked : (run : Run) (map : List ℕ) (threshold : ℕ) (guard : Guard) (room after : List ℕ) (count : ℕ) → BlankingPromise run map threshold guard room (Done count) after → (j : ℕ) → ListedIn after count j ↔ Blanked run map threshold guard j
@@ -41,6 +45,13 @@ listed-disturbed c run periods weights map made threshold low guard room after c
 -- A room of one number more than the run has lines is never refused 21.
 pub room-enough : (run : Run) (map : List ℕ) (threshold : ℕ) (guard : Guard) (room : List ℕ) → suc (linesOf run) ≤ length room → HoldsFewer run map threshold guard room → ⊥
 room-enough run map threshold guard room long fewer = omega (arith, Meaning.stretches-few run map threshold guard (fewer .1), fewer .2)
+
+-- Asked within the ranges, with such a room, a call is done.
+pub list-exists : (run : Run) (map : List ℕ) (threshold : ℕ) (guard : Guard) (room : List ℕ) → ValidRun run → 1 ≤ threshold → (BadGuard (run .window) guard → ⊥) → length map ≡ cellsOf run → suc (linesOf run) ≤ length room → (count : ℕ) × (after : List ℕ) × BlankingPromise run map threshold guard room (Done count) after
+list-exists run map threshold guard room v some inside whole long =
+    let made = blanked-stretches run map threshold guard in
+    let silent = blanking-silent run (v .fits) map threshold guard room .1 (v, some, inside, whole, room-enough run map threshold guard room long) in
+    (length (made .0), written (made .0) room, granted-call (made .1) (blanking-renders run map threshold guard room (made .1) .passes .1 silent) refl refl)
 
 -- ---- blocks
 
@@ -144,6 +155,31 @@ blocks-listed run blocks lists v cut threshold guard keep room after count h j =
     let here = blocks-blanked v blocks lists cut threshold guard keep refl j in
     let all = Meaning.listed-blanked h j in
     (λ l. all .1 (here .0 l), λ l. here .1 (all .0 l))
+
+-- no cell
+no-cell : (map : List ℕ) → length map ≡ 0 → [] ≡ map
+no-cell [] e = refl
+no-cell (x ∷ map) e = absurd (omega arith)
+
+module _ {run : Run} (v : ValidRun run) (threshold : ℕ) (some : 1 ≤ threshold) (guard : Guard) (inside : BadGuard (run .window) guard → ⊥) where
+  lists-from : (line : ℕ) (blocks : List Run) → run .first ≤ line → CutFrom run line blocks → (map : List ℕ) → length map + before run line ≡ cellsOf run → (lists : List BlockList) × BlockLists threshold guard blocks lists × (partsOf lists ≡ map)
+  lists-from line [] low cut map e = ([], tt, no-cell map (omega (arith, before-end run cut)))
+  lists-from line (block ∷ blocks) low cut map e =
+      let p = cut .0 in
+      let b = piece-is run blocks low cut in
+      let n = cellsOf block in
+      let here : before run line + n ≡ before run (suc (block .last)) = ap (λ x. x + n) (before-piece p) ∙ sym (before-next b (p .ordered)) in
+      let few = before-within run (suc (block .last)) (omega (arith, b .to)) in
+      let part : length (take n map) ≡ n = length-take-le n map (omega (arith, e, here, few)) in
+      let room = zeros (suc (linesOf block)) in
+      let long = length-zeros (suc (linesOf block)) in
+      let own = list-exists block (take n map) threshold guard room (valid-block v b (p .ordered)) some (λ bad. inside (rw (p .window) at bad)) part (omega (arith, long)) in
+      let rest = lists-from (suc (block .last)) blocks (omega (arith, low, p .begins, p .ordered)) (cut .1) (drop n map) (omega (arith, length-drop n map, e, here, few)) in
+      (record { map = take n map; room = room; count = own .0; after = own .1 } ∷ rest .0, (own .2, rest .1), ap (λ l. take n map ++ l) (rest .2) ∙ take-append-drop n map)
+
+-- Such lists exist for every cut: of every map of the run's length, for every threshold above 0 and every guard within the window.
+pub lists-exist : (run : Run) (blocks : List Run) → ValidRun run → Cut run blocks → (map : List ℕ) → length map ≡ cellsOf run → (threshold : ℕ) → 1 ≤ threshold → (guard : Guard) → (BadGuard (run .window) guard → ⊥) → (lists : List BlockList) × BlockLists threshold guard blocks lists × (partsOf lists ≡ map)
+lists-exist run blocks v cut map whole threshold some guard inside = lists-from v threshold some guard inside (run .first) blocks (omega arith) cut map (omega (arith, whole, before-first run))
 
 -- And two cuts of one run and its map list the same lines.
 pub same-lines : (run : Run) (blocks others : List Run) (lists more : List BlockList) → ValidRun run → Cut run blocks → Cut run others → (threshold : ℕ) (guard : Guard) → BlockLists threshold guard blocks lists → BlockLists threshold guard others more → partsOf lists ≡ partsOf more → (j : ℕ) → ListedInOne lists j ↔ ListedInOne more j

@@ -11,7 +11,7 @@ use mathlib.Core.List.{List, [], _∷_, _++_}
 use mathlib.Core.Option.{Option, some, none}
 use lib.ListN.{length, getD, take}
 use Rattle.rooms.proofs.Lists.{padded-front}
-use borrow.Author.Tests.{leb-false, lt-leb}
+use borrow.Author.Tests.{leb-false, lt-leb, eqb-false}
 use Rattle.scope.specs.declared.Run.{Run}
 use Rattle.scope.specs.declared.Source.{Source}
 use Rattle.scope.specs.declared.RunCell.{RunCell}
@@ -38,7 +38,8 @@ use Rattle.blanking.specs.declared.Guard.{Guard}
 use Rattle.blanking.specs.declared.Blanking.{Blanking}
 use Rattle.blanking.specs.Promise.{saysBlanking, BlankingPromise}
 use Rattle.blanking.specs.Promise as Blanked
-use Rattle.blanking.specs.Table.{blankingTable}
+use Rattle.blanking.specs.Table.{BadGuard, HoldsFewer, blankingTable}
+use Rattle.blanking.proofs.Guarding.{blanked-stretches}
 use Rattle.blanking.proofs.Table.{blanking-renders}
 use Rattle.saved.specs.declared.Saved.{Saved}
 use Rattle.saved.specs.declared.Loaded.{Loaded}
@@ -70,6 +71,7 @@ use Rattle.saved.proofs.Table.{saving-renders, reading-renders}
 use Rattle.vectors.proofs.Table.{vectors-renders}
 use Rattle.hits.proofs.Table.{first-hit-renders, listing-renders}
 use Rattle.map.proofs.Table.{map-renders}
+use Rattle.scope.proofs.Table.{run-renders}
 use Rattle.text.proofs.Table.{text-renders}
 
 -- ---- vectors
@@ -230,6 +232,26 @@ module _ (run : Run) (fits : run .interval ≤ 4294967295) where
             let lists = passes-first p in
             (valid-run (passes-first (passes-first lists)) fits, same _ _ (passes-then (passes-first lists)), valid-entries ceiling 1 entries (passes-then lists), same _ _ (passes-then p)),
         λ h. rows .passes .0 (both (both (both (valid-run-passes (h .0)) (sound (agrees refl refl (h .1)))) (valid-entries-pass ceiling 1 entries (h .2))) (sound (agrees refl refl (h .3)))),
+      )
+
+  -- And that of the blanking call exactly if the run is, the threshold is above 0, the guard lies upright in the window, the map has the
+  -- run's cells and the room holds the stretches.
+  pub blanking-silent : (map : List ℕ) (threshold : ℕ) (guard : Guard) (room : List ℕ) → Silent (blankingTable run map threshold guard room) ↔ (ValidRun run × (1 ≤ threshold) × (BadGuard (run .window) guard → ⊥) × (length map ≡ cellsOf run) × (HoldsFewer run map threshold guard room → ⊥))
+  unfolding Blanked.blankingTests Blanked.askedTests
+  blanking-silent map threshold guard room =
+      let rows = blanking-renders run map threshold guard room (blanked-stretches run map threshold guard .1) in (
+        λ s.
+            let asked = passes-first (rows .passes .1 s) in
+            let before = passes-first (passes-first asked) in (
+              valid-run (passes-first before) fits,
+              omega (arith, eqb-false threshold 0 (passes-when (passes-then before))),
+              s .1 .1 .1 .1 .1 .0,
+              same _ _ (passes-then asked),
+              s .1 .1 .1 .1 .1 .1 .1 .0,
+            ),
+        λ h.
+            let fine = run-renders run .passes .0 (valid-run-passes (h .0)) in
+            (fine .0, (fine .1 .0, (fine .1 .1 .0, (fine .1 .1 .1 .0, (λ e. omega (arith, e, h .1), (h .2, (λ n. n (h .3), (h .4, tt)))))))),
       )
 
 -- ---- a list of sources at fault

@@ -15,7 +15,6 @@ use Rattle.scope.specs.declared.RunCell.{RunCell}
 use Rattle.scope.specs.declared.Reason.{Reason}
 use Rattle.scope.specs.declared.Place.{Place}
 use Rattle.scope.specs.declared.Place.the-variants.{Nowhere, AtSource}
-use Rattle.scope.specs.Refusal.{number}
 use Rattle.scope.specs.Reply.{Said, refused, answered}
 use Rattle.scope.proofs.Judged.{refused-same}
 use Rattle.vectors.specs.declared.Steps.{Steps}

@@ -1,16 +1,11 @@
 -- For every input of each of the nine operations some reply fits the promise, so that the theorems over the promises are not empty.
 -- (That the program's own reply fits is what the check of each operation says.) Assumes nothing.
 use Prim.Native.Nat.{ℕ}
-use mathlib.Core.Path.{_≡_, refl}
-use mathlib.Core.Logic.{_⊎_, inl, inr}
 use mathlib.Core.List.{List}
-use mathlib.Core.Option.{Option, some, none}
 use Rattle.scope.specs.declared.Run.{Run}
 use Rattle.scope.specs.declared.Source.{Source}
 use Rattle.scope.specs.declared.RunCell.{RunCell}
 use Rattle.scope.specs.Run.{ceiling}
-use Rattle.scope.specs.Reply.{Said, refused, answered, reply, stored}
-use Rattle.scope.proofs.Judged.{Fails, Passes}
 use Rattle.vectors.specs.declared.Steps.{Steps}
 use Rattle.vectors.specs.Promise.{VectorsPromise}
 use Rattle.vectors.proofs.Unique as Vectors
@@ -35,7 +30,6 @@ use Rattle.text.proofs.Unique as Text
 use Rattle.report.specs.declared.Output.{Output}
 use Rattle.report.specs.Promise.{ReportPromise}
 use Rattle.report.proofs.Unique as Report
-use Rattle.scope.proofs.Rendered.{judged}
 
 -- Some reply fits the vectors call.
 pub vectors-exists : (p r I : ℕ) → (steps : Steps) × VectorsPromise p r I steps

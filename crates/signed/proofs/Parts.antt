@@ -1,12 +1,12 @@
 -- The positive and the negative part of an integer: z is up z - dn z, and one of the two is 0.
 -- For linear facts: `omega (arith, parts, sum x y)` reads and proves the orders of ℤ by the rules of `parts`.
 -- Assumes nothing.
-use mathlib.Core.Path.{_≡_, refl, sym, ap, subst}
+use mathlib.Core.Path.{_≡_, refl, sym, ap, _∙_, subst}
 use mathlib.Core.Logic.{_↔_}
 use Prim.Native.Nat.{ℕ, zero, suc, _+_, _*_, _^_, _≤_, _<_, min, max}
 use native.Mathlib.Omega.{arith}
 use native.Mathlib.Decide.{decLt}
-use mathlib.Core.Bool.{Bool, true, false, not}
+use mathlib.Core.Bool.{Bool, true, false, not, true≢false}
 use lib.Dec.{T, leb→le, le→leb, ltb→lt, lt→ltb}
 use lib.IntN.{ℤ, pos, negsuc, negℤ, natAbs, subℕ, _+ℤ_, _*ℤ_}
 use lib.Signed.{_≤ℤ_, _<ℤ_, ltZ, leZ, ltZ-no}
@@ -114,15 +114,28 @@ pub not-ltZ-parts : (x y : ℤ) → ltZ x y ≡ false → up y + dn x ≤ up x +
 not-ltZ-parts x y e = le-parts y x (ltZ-false x y e)
 
 -- a test is true exactly if the order holds
-holds : (t : Bool) → T t → t ≡ true
-holds true h = refl
-holds false h = absurd h
+test-true : (t : Bool) → T t → t ≡ true
+test-true true h = refl
+test-true false h = absurd h
 
 pub ltZ-order : (x y : ℤ) → (ltZ x y ≡ true) ↔ (x <ℤ y)
-ltZ-order x y = (ltZ-true x y, λ h. holds (ltZ x y) (h .lt))
+ltZ-order x y = (ltZ-true x y, λ h. test-true (ltZ x y) (h .lt))
 
 pub leZ-order : (x y : ℤ) → (leZ x y ≡ true) ↔ (x ≤ℤ y)
-leZ-order x y = (λ e. record { le = subst T (sym e) tt }, λ h. holds (leZ x y) (h .le))
+leZ-order x y = (λ e. record { le = subst T (sym e) tt }, λ h. test-true (leZ x y) (h .le))
+
+-- it holds or does not
+pub leZ-known : (x y : ℤ) → Dec (x ≤ℤ y)
+leZ-known x y = go (leZ x y) (leZ-order x y)
+  where
+    go : (test : Bool) → (test ≡ true) ↔ (x ≤ℤ y) → Dec (x ≤ℤ y)
+    go true e = yes (e .0 refl)
+    go false e = no (λ h. true≢false (sym (e .1 h)))
+
+pub leZ-false : (x y : ℤ) → leZ x y ≡ false → y <ℤ x
+leZ-false x y e =
+    let n : up x + dn y ≤ up y + dn x → ⊥ = λ h. true≢false (sym (leZ-order x y .1 (parts-le x y h)) ∙ e) in
+    parts-lt y x (omega (arith, n))
 
 -- z is held by 64 bits
 pub fits-parts : (z : ℤ) → SFits w64 z → max (suc (up z)) (dn z) ≤ 2 ^ 63

@@ -121,17 +121,17 @@ fn print_refusals(ledger: &[u64]) {
     tally::print(
         ledger,
         tally::LINE_ORDER,
-        b"run 4 0 7 6 refused 17 by every call",
+        b"run 4 0 7 6 refused 17 by seven calls",
     );
     tally::print(
         ledger,
         tally::HIGH_ORDER,
-        b"run 4 0 16777219 16777218 refused 17 by every call",
+        b"run 4 0 16777219 16777218 refused 17 by seven calls",
     );
     tally::print(
         ledger,
         tally::LAST_LINE,
-        b"run 4 0 0 16777217 refused 18 by every call",
+        b"run 4 0 0 16777217 refused 18 by seven calls",
     );
     tally::print(
         ledger,

@@ -5,6 +5,7 @@ use crate::comparing::NO_LINE;
 use crate::kinds;
 use crate::stretches::Asked;
 use scope::Run;
+use trying::numbers;
 use trying::reference::Refusal;
 use trying::reference::plain;
 use trying::tally;
@@ -192,6 +193,34 @@ fn try_ones(ledger: &mut [u64]) {
     tally::count(ledger, line, lists_all(16777216, 16777216, &map[0..4]));
 }
 
+// Whether line 7, with a window of 50, is a stretch where the cell at a place is at the threshold and every other just below it.
+fn finds(place: u32) -> bool {
+    let mut map = [199u8; 50];
+    let asked = Asked {
+        run: Run {
+            window: 50,
+            interval: 10,
+            first: 7,
+            last: 7,
+        },
+        threshold: 200,
+        lowest: -25,
+        highest: 24,
+    };
+    let none = says(plain(0), 0, asked, &map, 2, [NO_LINE; 6]);
+    numbers::put_byte(&mut map, place as usize, 200);
+    none && lists_one(asked, &map, 2, 7, 7)
+}
+
+// A cell at the threshold is found at each place of a line, wherever the cells that are looked at together begin and end.
+fn try_places(ledger: &mut [u64]) {
+    let mut place: u32 = 0;
+    while place < 50 {
+        tally::count(ledger, kinds::PLACES, finds(place));
+        place += 1;
+    }
+}
+
 // What is asked of two lines of the widest window, with a guard of one offset.
 fn ask_widest(offset: i64) -> Asked {
     Asked {
@@ -244,5 +273,6 @@ pub fn try_examples(ledger: &mut [u64]) {
     try_example(ledger, &map);
     try_lengths(ledger);
     try_ones(ledger);
+    try_places(ledger);
     try_widest(ledger, &widest);
 }

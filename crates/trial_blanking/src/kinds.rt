@@ -54,6 +54,8 @@ pub const REFUSED: usize = 21;
 
 pub const TWO_FAULTS: usize = 22;
 
+pub const PLACES: usize = 23;
+
 // Whether a call with a map of so many cells has two faults or more: of its run, its threshold, its guard and, if the run is fine, its
 // map's length.
 fn has_two(asked: Asked, cells: usize) -> bool {

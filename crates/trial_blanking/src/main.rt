@@ -78,6 +78,11 @@ fn print_ends(ledger: &[u64]) {
     );
     tally::print(
         ledger,
+        kinds::PLACES,
+        b"window 50: one cell at the threshold, at each place",
+    );
+    tally::print(
+        ledger,
         kinds::WIDEST,
         b"window 4096: guards at -2048 and 2047, one further out refused 20",
     );

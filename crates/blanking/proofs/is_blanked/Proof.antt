@@ -2,17 +2,15 @@
 -- it (`line-fits`). Assumes nothing.
 use borrow.Author.Needs.{needs}
 use native.Mathlib.Omega.{arith}
-use Prim.Native.Nat.{ℕ, _/_, _≤_, _<_}
+use Prim.Native.Nat.{_/_, _≤_}
 use mathlib.Core.Path.{_≡_, refl}
 use mathlib.Core.Logic.{Iff·trans}
-use lib.IntN.{ℤ, pos, _+ℤ_}
+use lib.IntN.{pos, _+ℤ_}
 use mir.Syntax.{w64}
 use mir.Val.{SFits}
 use mir.Facts.{toZ-ofZ}
-use Rattle.signed.proofs.Parts.{parts, sum}
 use Rattle.scope.proofs.Limits.{cells-few}
-use Rattle.blanking.specs.Inner.{Within}
-use Rattle.blanking.proofs.Guarding.{line-fits, line-reaches, upright}
+use Rattle.blanking.proofs.Guarding.{near, line-fits, line-reaches, upright}
 use Rattle.blanking.proofs.is_blanked.Statement.{statement}
 use Rattle.blanking.proofs.is_blanked.Tie as tie
 
@@ -28,10 +26,6 @@ low c = simp (toZ-ofZ (held-low (c .before .before .before .before .before))) at
 
 high : (c : tie.After-distance2) → let a = c .before .before .before .before .before .before .before .args in a .guard .highest +ℤ pos (a .run .window / 2) ≡ pos (c .distance2 .result)
 high c = simp (toZ-ofZ (held-high (c .before .before .before .before .before .before .before))) at (c .distance2 .ensures)
-
--- a distance is less than the window
-near : {window : ℕ} {offset : ℤ} {d : ℕ} → Within window offset → offset +ℤ pos (window / 2) ≡ pos d → d < window
-near {window} {offset} w e = omega (arith, parts, w .right, e, sum offset (pos (window / 2)))
 
 -- the guard is upright
 ordered : (c : tie.After-distance2) → c .before .before .distance .result ≤ c .distance2 .result
