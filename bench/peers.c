@@ -1,6 +1,7 @@
 // The peers in plain C: what a user would write today (naive, and the blanking list), and the walk of Franke and Kleinjung with
 // all that belongs to it.
-// They judge nothing that they are given but the blocks of a file and the room of a blanking list. NAME(x) puts the compiler's name before x.
+// They judge nothing that they are given but the blocks of a file and the room of a blanking list. NAME(x) puts the compiler's name
+// before x.
 #include "bench.h"
 #include <string.h>
 

@@ -1,5 +1,5 @@
 -- Request E3, what its report means, over the promises alone: which lines a blanking list lists, that a cut of the run changes nothing of
--- that, and which room is always enough. Assumes nothing.
+-- that, which room is always enough, and that such lists exist. Assumes nothing.
 use Prim.Native.Nat.{ℕ, suc, _+_, _-_, _*_, _%_, _≤_, _<_}
 use native.Mathlib.Nat.{mod-lt, mul-le-mul-right}
 use native.Mathlib.Decide.{decLe}
@@ -46,7 +46,7 @@ listed-disturbed c run periods weights map made threshold low guard room after c
 pub room-enough : (run : Run) (map : List ℕ) (threshold : ℕ) (guard : Guard) (room : List ℕ) → suc (linesOf run) ≤ length room → HoldsFewer run map threshold guard room → ⊥
 room-enough run map threshold guard room long fewer = omega (arith, Meaning.stretches-few run map threshold guard (fewer .1), fewer .2)
 
--- Asked within the ranges, with such a room, a call is done.
+-- Asked within the ranges, with such a room, the reply that a call is done fits, and by `blanking-unique` no other does.
 pub list-exists : (run : Run) (map : List ℕ) (threshold : ℕ) (guard : Guard) (room : List ℕ) → ValidRun run → 1 ≤ threshold → (BadGuard (run .window) guard → ⊥) → length map ≡ cellsOf run → suc (linesOf run) ≤ length room → (count : ℕ) × (after : List ℕ) × BlankingPromise run map threshold guard room (Done count) after
 list-exists run map threshold guard room v some inside whole long =
     let made = blanked-stretches run map threshold guard in
@@ -177,7 +177,7 @@ module _ {run : Run} (v : ValidRun run) (threshold : ℕ) (some : 1 ≤ threshol
       let rest = lists-from (suc (block .last)) blocks (omega (arith, low, p .begins, p .ordered)) (cut .1) (drop n map) (omega (arith, length-drop n map, e, here, few)) in
       (record { map = take n map; room = room; count = own .0; after = own .1 } ∷ rest .0, (own .2, rest .1), ap (λ l. take n map ++ l) (rest .2) ∙ take-append-drop n map)
 
--- Such lists exist for every cut: of every map of the run's length, for every threshold above 0 and every guard within the window.
+-- Such lists exist for every cut: of every map of the run's length, for every threshold above 0 and every guard upright within the window.
 pub lists-exist : (run : Run) (blocks : List Run) → ValidRun run → Cut run blocks → (map : List ℕ) → length map ≡ cellsOf run → (threshold : ℕ) → 1 ≤ threshold → (guard : Guard) → (BadGuard (run .window) guard → ⊥) → (lists : List BlockList) × BlockLists threshold guard blocks lists × (partsOf lists ≡ map)
 lists-exist run blocks v cut map whole threshold some guard inside = lists-from v threshold some guard inside (run .first) blocks (omega arith) cut map (omega (arith, whole, before-first run))
 

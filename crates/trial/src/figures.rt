@@ -84,8 +84,9 @@ pub fn try_last_cell(ledger: &mut [u64]) {
     tally::count(ledger, line, listing::refused(plain(8), run, 7, all, 8));
 }
 
-// Tries a run with these lines and an interval of 0 in seven calls, all with a run but the blanking list's, which crate trial_blanking tries,
-// with sources at fault where there are any: each call is to refuse with this number. The text is that of the run alone, and what is to be printed of it is given.
+// Tries a run with these lines and an interval of 0 in each of the seven calls with a run besides the blanking list, which crate
+// trial_blanking tries, with sources at fault where there are any: each is to refuse with this number. The text is that of the run
+// alone, and what is to be printed of it is given.
 fn try_lines(
     ledger: &mut [u64],
     line: usize,
