@@ -181,13 +181,16 @@ static double call_list(int who) {
 
 // ---- the saved map
 
+// How the peers work out the check in the rows being measured.
+static way check_by;
+
 static double call_save(int who) {
     uint64_t all = cells_of(r), length = file_of(r);
     memset(file, 0, length);
     double began = seconds();
     if (who == OURS && zenithgong_save(r.window, r.interval, r.first, r.last, map, all, file, length)) exit(3);
-    if (who == GCC) gcc_save(r, map, file);
-    if (who == CLANG) clang_save(r, map, file);
+    if (who == GCC) gcc_save(check_by, r, map, file);
+    if (who == CLANG) clang_save(check_by, r, map, file);
     if (who == LIMIT) memcpy(file, map, all);
     double took = seconds() - began;
     sum = sum_of(file, length), units = all;
@@ -198,12 +201,13 @@ static double call_read(int who) {
     uint64_t all = cells_of(r), length = file_of(r);
     run found;
     run_reply reply = {0};
-    gcc_save(r, map, file);
+    gcc_save(WEIGHTED, r, map, file);
     uint8_t *to = (uint8_t *)room;
     memset(to, 0, all);
     double began = seconds();
     if (who == OURS) zenithgong_read(&reply, file, length, to, all);
-    if ((who == GCC && !gcc_read(file, length, &found, to)) || (who == CLANG && !clang_read(file, length, &found, to)) || reply.refusal) exit(3);
+    int done = who == GCC ? gcc_read(check_by, file, length, &found, to) : who == CLANG ? clang_read(check_by, file, length, &found, to) : 1;
+    if (!done || reply.refusal) exit(3);
     if (who == LIMIT) memcpy(to, file, all);
     double took = seconds() - began;
     sum = sum_of(to, all), units = all;
@@ -345,12 +349,15 @@ static void measure_all(void) {
             snprintf(row, sizeof row, "list %s %u %d", SETS[s].name, windows[w], s ? 64 : 1);
             measure(row, "hit", call_list, "+-+++-");
         }
-    for (int size = 0; size < 2; size++) {
+    for (int k = 0; k < 2 * 2; k++) {
+        int columns = k / 2, size = k % 2;
+        const char *name = columns ? "columns" : "weighted";
+        check_by = columns ? COLUMNS : WEIGHTED;
         take_run(512, sizes[size], 1);
-        for (uint64_t k = 0; k < cells_of(r); k++) map[k] = any();
-        snprintf(row, sizeof row, "save - 512 %d", sizes[size]);
+        for (uint64_t cell = 0; cell < cells_of(r); cell++) map[cell] = any();
+        snprintf(row, sizeof row, "save %s 512 %d", name, sizes[size]);
         measure(row, "cell", call_save, "+-++-+");
-        snprintf(row, sizeof row, "read - 512 %d", sizes[size]);
+        snprintf(row, sizeof row, "read %s 512 %d", name, sizes[size]);
         measure(row, "cell", call_read, "+-++-+");
     }
     for (int k = 0; k < 2 * 2 * 2; k++) {

@@ -148,50 +148,59 @@ size_t NAME(list)(run r, uint32_t period, uint64_t start, uint64_t *room, size_t
     return n;
 }
 
-// Numbers are stored as this machine has them: both kinds that this benchmark knows have the lowest byte first.
-static uint32_t check(const uint8_t *block) {
+// A block's check by its weighted sum, and in two columns as ours.
+static uint32_t weighted(const uint8_t *block) {
     uint32_t sum = 1;
     for (uint32_t k = 0; k < 508; k++) sum += (k + 1) * block[k];
     return sum;
 }
 
-static void put_block(uint32_t number, const void *bytes, size_t size, uint8_t *block) {
+static uint32_t columns(const uint8_t *block) {
+    uint32_t total = 0, sum = 1;
+    for (int k = 507; k >= 0; k--) sum += total += block[k];
+    return sum;
+}
+
+static uint32_t check(way how, const uint8_t *block) { return how == WEIGHTED ? weighted(block) : columns(block); }
+
+// Numbers are stored as this machine has them: both kinds that this benchmark knows have the lowest byte first.
+static void put_block(way how, uint32_t number, const void *bytes, size_t size, uint8_t *block) {
     memcpy(block, &number, 4);
     memcpy(block + 4, bytes, size);
     memset(block + 4 + size, 0, 504 - size);
-    uint32_t sum = check(block);
+    uint32_t sum = check(how, block);
     memcpy(block + 508, &sum, 4);
 }
 
-void NAME(save)(run r, const uint8_t *map, uint8_t *file) {
+void NAME(save)(way how, run r, const uint8_t *map, uint8_t *file) {
     uint32_t heading[5] = {1, r.window, r.interval, r.first, r.last}, number = 0;
-    put_block(0, heading, sizeof heading, file);
+    put_block(how, 0, heading, sizeof heading, file);
     for (uint64_t left = cells_of(r), size; left > 0; left -= size, map += size) {
         size = left < 504 ? left : 504;
-        put_block(++number, map, size, file += 512);
+        put_block(how, ++number, map, size, file += 512);
     }
 }
 
 // Whether a block has its number and its check, and zeros behind its bytes.
-static int is_block(uint32_t number, size_t size, const uint8_t *block) {
+static int is_block(way how, uint32_t number, size_t size, const uint8_t *block) {
     uint32_t found[2];
     memcpy(&found[0], block, 4);
     memcpy(&found[1], block + 508, 4);
-    if (found[0] != number || found[1] != check(block)) return 0;
+    if (found[0] != number || found[1] != check(how, block)) return 0;
     for (size_t k = size; k < 504; k++)
         if (block[4 + k]) return 0;
     return 1;
 }
 
 // All blocks are judged before the first cell is filled.
-int NAME(read)(const uint8_t *file, uint64_t length, run *r, uint8_t *map) {
+int NAME(read)(way how, const uint8_t *file, uint64_t length, run *r, uint8_t *map) {
     uint32_t heading[5];
     memcpy(heading, file + 4, sizeof heading);
     *r = (run){heading[1], heading[2], heading[3], heading[4]};
-    if (!is_block(0, 20, file) || heading[0] != 1 || length != file_of(*r)) return 0;
+    if (!is_block(how, 0, 20, file) || heading[0] != 1 || length != file_of(*r)) return 0;
     uint64_t all = cells_of(*r);
     for (uint64_t at = 0, k = 1; at < all; at += 504, k++)
-        if (!is_block(k, all - at, file + 512 * k)) return 0;
+        if (!is_block(how, k, all - at, file + 512 * k)) return 0;
     for (uint64_t at = 0, k = 1; at < all; at += 504, k++) memcpy(map + at, file + 512 * k + 4, all - at < 504 ? all - at : 504);
     return 1;
 }

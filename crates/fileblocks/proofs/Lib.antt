@@ -1,4 +1,4 @@
-pub mod Number
 pub mod Filling
 pub mod FileBlock
+pub mod Columns
 pub mod Table

@@ -27,18 +27,22 @@ fn wide(byte: u8) -> u32
     byte as u32
 }
 
-// The check of a block: 1 and the sum of (k+1)·byte k for k = 0..507. Each term is at most 508·255, so that 32 bits hold the sum.
+// The check of a block, in two columns as a spreadsheet has them: row 1 has byte 507, row 508 byte 0. A row's total is the total above
+// it and its byte; the totals are summed up, and 1 is added at the end. No total is above 508·255, so that 32 bits hold the sum.
 fn check(block: &[u8]) -> u32
     requires { ⌜ checkAt ≤ length (now block) ⌝ }
     ensures { λ r. ⌜ r ≡ checkOf (now (block .entry)) ⌝ }
 {
-    let mut sum: u32 = 1;
-    let mut k: usize = 0;
-    while k < CHECK_AT {
-        sum += (k as u32 + 1) * wide(block[k]);
-        k += 1;
+    let mut total: u32 = 0;
+    let mut sum: u32 = 0;
+    let mut row: usize = 0;
+    while row < CHECK_AT {
+        row += 1;
+        let above = total;
+        total = above + wide(block[CHECK_AT - row]);
+        sum += total;
     }
-    sum
+    sum + 1
 }
 
 // Inner step. The number that the four bytes from `at` on stand for, the lowest first: each is at most 255, so that it fits.

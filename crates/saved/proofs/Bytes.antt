@@ -1,12 +1,12 @@
 -- Lists of bytes, of which no one is above 255. Assumes nothing.
 use Prim.Native.Nat.{ℕ, zero, suc, _-_, _*_, _≤_, _<_}
 use mathlib.Core.List.{List}
+use native.Mathlib.Nat.{mul-le-mul}
 use native.Mathlib.Omega.{arith}
 use lib.ListN.{length, getD, take, drop}
 use Rattle.rooms.proofs.Lists.{up-to-take, up-to-drop, up-to-append, up-to-zeros}
 use Rattle.fileblocks.specs.FileBlock.{fileBlockBytes, contentBytes, checkAt, Bytes, four, filled, weighted, checkOf}
 use Rattle.saved.specs.File.{fileBlockAt}
-use Rattle.fileblocks.proofs.Number.{term-small}
 
 pub bytes-four : (n : ℕ) → Bytes (four n)
 unfolding four
@@ -30,8 +30,7 @@ unfolding weighted
 weighted-small l b zero h = omega arith
 weighted-small l b (suc k) h =
     let e = weighted-small l b k (omega arith) in
-    let byte = b k in
-    let t = term-small {k = k} {b = getD l k 0} h (omega arith) in
+    let term : suc k * getD l k 0 ≤ 129540 = mul-le-mul h (b k) in
     omega arith
 
 pub check-small : (l : List ℕ) → Bytes l → checkOf l < 4294967296

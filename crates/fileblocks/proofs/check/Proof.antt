@@ -1,28 +1,27 @@
--- `fileblocks::check` meets its contract. The invariant of its loop: the sum is 1 and that of the first k bytes, and small. The measure is how many bytes are left.
--- Assumes nothing.
-use Prim.Native.Nat.{_-_, _+_}
-use mathlib.Core.Path.{_≡_, ap, _∙_}
+-- `fileblocks::check` meets its contract. The invariant of its loop: the two columns have what stands in the rows so far, and it is small.
+-- The measure is how many rows are left. Assumes nothing.
+use Prim.Native.Nat.{_-_}
 use borrow.Author.Needs.{needs}
 use native.Mathlib.Omega.{arith}
-use Rattle.fileblocks.specs.FileBlock.{checkAt, weighted, checkOf}
-use Rattle.fileblocks.proofs.Number.{Summed, summed-none, summed-more, term-small}
+use Rattle.fileblocks.specs.FileBlock.{checkAt}
+use Rattle.fileblocks.proofs.Columns.{Rows, rows-none, rows-more, rows-all}
 use Rattle.fileblocks.proofs.check.Statement.{statement}
 use Rattle.fileblocks.proofs.check.Tie as tie
 
 abbrev Inv-loop : tie.InvT-loop
-Inv-loop block sum₀ k₀ sum k = Summed block k sum
+Inv-loop block total₀ sum₀ row₀ total sum row = Rows block row total sum
 
 abbrev μ-loop : tie.MeasureT-loop
-μ-loop block sum₀ k₀ sum k = checkAt - k
+μ-loop block total₀ sum₀ row₀ total sum row = checkAt - row
 
 loop-holds : tie.Need-loop-holds Inv-loop μ-loop
-loop-holds c = summed-none _
+loop-holds c = rows-none _
 
-cast-sum : tie.Need-cast-sum Inv-loop μ-loop
-cast-sum c = omega arith
+add-row : tie.Need-add-row Inv-loop μ-loop
+add-row c = omega arith
 
-add-sum : tie.Need-add-sum Inv-loop μ-loop
-add-sum c = omega arith
+sub-wide : tie.Need-sub-wide Inv-loop μ-loop
+sub-wide c = omega arith
 
 shared-slice-read-wide : tie.Need-shared-slice-read-wide Inv-loop μ-loop
 shared-slice-read-wide c = omega arith
@@ -30,26 +29,23 @@ shared-slice-read-wide c = omega arith
 wide-requires : tie.Need-wide-requires Inv-loop μ-loop
 wide-requires c κs = search needs
 
-mul-sum : tie.Need-mul-sum Inv-loop μ-loop
-mul-sum c = let t = term-small (c .before .before .loop-test .taken) (c .wide .ensures .1) in omega arith
+add-total : tie.Need-add-total Inv-loop μ-loop
+add-total c = omega arith
 
-add-sum-2 : tie.Need-add-sum-2 Inv-loop μ-loop
-add-sum-2 c = let t = term-small (c .before .before .loop-test .taken) (c .wide .ensures .1) in omega arith
-
-add-k : tie.Need-add-k Inv-loop μ-loop
-add-k c = omega arith
+add-sum : tie.Need-add-sum Inv-loop μ-loop
+add-sum c = omega arith
 
 loop-less : tie.Need-loop-less Inv-loop μ-loop
 loop-less c = omega arith
 
 loop-again : tie.Need-loop-again Inv-loop μ-loop
-loop-again c = summed-more (c .before .before .before .loop .inv) (c .before .before .loop-test .taken) (c .wide .ensures .0) (c .wide .ensures .1)
+loop-again c = rows-more (c .before .before .before .loop .inv) (omega arith) (omega arith) (c .wide .ensures .0) (c .wide .ensures .1)
+
+add-result : tie.Need-add-result Inv-loop μ-loop
+add-result c = omega arith
 
 returns : tie.Need-returns Inv-loop μ-loop
-unfolding checkOf
-returns c =
-    let all : c .before .loop .k ≡ checkAt = omega arith in
-    c .before .loop .inv .is ∙ ap (λ k. 1 + weighted (c .before .before .before .args .block .now) k) all
+returns c = rows-all (c .before .loop .inv) (omega arith) (omega arith)
 
 pub check-spec : {M : Type 1} → statement M
 check-spec =
@@ -58,13 +54,13 @@ check-spec =
     Inv-loop
     μ-loop
     loop-holds
-    cast-sum
-    add-sum
+    add-row
+    sub-wide
     shared-slice-read-wide
     wide-requires
-    mul-sum
-    add-sum-2
-    add-k
+    add-total
+    add-sum
     loop-less
     loop-again
+    add-result
     returns)

@@ -1,5 +1,5 @@
-//! The bench figures of document 01, examples of request E1's refusals, of request E2's runs and of request E3's stretches, and
-//! the words of all refusals.
+//! The bench figures of document 01, examples of request E1's refusals, of request E2's runs, of request E3's stretches and of
+//! request E4's columns, and the words of all refusals.
 use crate::library::*;
 use crate::support::{trials, wide};
 use crate::{files, texts};
@@ -75,24 +75,65 @@ fn hits_of_the_document() {
     });
 }
 
+/// The run of the document's example, its map and its file, all of them by the library.
+fn example() -> (Run, [u8; 20], [u8; 1024]) {
+    let input = read_text(b"run 4 10 1 5\nsrc 7 60\nsrc 3 200\n").unwrap();
+    let (periods, weights): (Vec<u32>, Vec<u32>) = input.sources.into_iter().unzip();
+    let mut map = [0; 20];
+    add_to_map(input.run, &periods, &weights, &mut map).unwrap();
+    let mut file = [0; 1024];
+    save(input.run, &map, &mut file).unwrap();
+    (input.run, map, file)
+}
+
 #[test]
 fn map_and_file_of_the_document() {
     trials("the document's map and file", 1, |_| {
-        let input = read_text(b"run 4 10 1 5\nsrc 7 60\nsrc 3 200\n").unwrap();
-        let (periods, weights): (Vec<u32>, Vec<u32>) = input.sources.into_iter().unzip();
-        let mut map = [0; 20];
-        add_to_map(input.run, &periods, &weights, &mut map).unwrap();
+        let (run, map, file) = example();
         let expected = [
             200, 0, 0, 200, 0, 255, 0, 0, 0, 0, 200, 0, 255, 0, 0, 200, 0, 200, 0, 60,
         ];
         assert_eq!(map, expected);
-        let mut file = [0; 1024];
-        save(input.run, &map, &mut file).unwrap();
         let check = |at: usize| u32::from_le_bytes(file[at..at + 4].try_into().unwrap());
         assert_eq!((check(508), check(1020)), (294, 22_327));
         let mut back = [0; 20];
-        assert_eq!(read(&file, &mut back), Ok(input.run));
+        assert_eq!(read(&file, &mut back), Ok(run));
         assert_eq!(back, map);
+    });
+}
+
+/// The numbers of a table's row.
+fn numbers(row: &str) -> Vec<u32> {
+    let number = |cell: &str| cell.trim().parse().ok();
+    row.split('|').filter_map(number).collect()
+}
+
+/// The sheet of request E4 on the example's file: docs/CHECK.md shows its rows from 485 on, and in those before them all is 0.
+#[test]
+fn columns_of_the_page() {
+    trials("the page's columns", 1, |_| {
+        let page = include_str!("../../../../docs/CHECK.md");
+        let rows: Vec<_> = page
+            .lines()
+            .map(numbers)
+            .filter(|row| row.len() == 8)
+            .collect();
+        assert_eq!(rows.len(), 24);
+        for (block, bytes) in example().2.chunks(512).enumerate() {
+            let (mut total, mut sum) = (0, 0);
+            for row in 1..=508 {
+                let byte = bytes[508 - row] as u32;
+                total += byte;
+                sum += total;
+                let Some(shown) = row.checked_sub(485) else {
+                    assert_eq!((byte, total, sum), (0, 0, 0));
+                    continue;
+                };
+                assert_eq!(rows[shown][..2], [row as u32, 508 - row as u32]);
+                assert_eq!(rows[shown][2 + 3 * block..][..3], [byte, total, sum]);
+            }
+            assert_eq!(bytes[508..], (sum + 1).to_le_bytes());
+        }
     });
 }
 
