@@ -36,8 +36,8 @@ static inline uint64_t file_of(run r) { return 512 * (1 + (cells_of(r) + 503) / 
     pair by##_vectors(uint32_t period, uint32_t remainder, uint32_t window);                                       \
     uint64_t by##_first_hit(run r, uint32_t period, uint64_t start);                                               \
     size_t by##_list(run r, uint32_t period, uint64_t start, uint64_t *room, size_t length, uint64_t *next);       \
-    void by##_save(way how, run r, const uint8_t *map, uint8_t *file);                                              \
-    int by##_read(way how, const uint8_t *file, uint64_t length, run *r, uint8_t *map);                             \
+    void by##_save(way how, run r, const uint8_t *map, uint8_t *file);                                             \
+    int by##_read(way how, const uint8_t *file, uint64_t length, run *r, uint8_t *map);                            \
     size_t by##_blank(run r, guard g, const uint8_t *map, uint32_t *room, size_t length);
 PEERS(gcc)
 PEERS(clang)

@@ -157,7 +157,10 @@ static uint32_t weighted(const uint8_t *block) {
 
 static uint32_t columns(const uint8_t *block) {
     uint32_t total = 0, sum = 1;
-    for (int k = 507; k >= 0; k--) sum += total += block[k];
+    for (int k = 507; k >= 0; k--) {
+        total += block[k];
+        sum += total;
+    }
     return sum;
 }
 

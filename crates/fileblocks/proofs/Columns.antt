@@ -1,5 +1,5 @@
 -- The check in two columns, as a spreadsheet has them: the running totals of the bytes from the last to the first, and the sum of the
--- totals. `columns` says that the sum is 01's "sum of (k+1)·byte k", for bytes of any number. Assumes nothing.
+-- totals. `columns` says that the sum is 01's "sum of (k+1)·byte k", for any number of bytes. Assumes nothing.
 use Prim.Native.Nat.{ℕ, zero, suc, _+_, _-_, _*_, _≤_, _<_}
 use mathlib.Core.Path.{_≡_, refl, sym, ap, _∙_}
 use mathlib.Core.List.{List, [], _∷_}
@@ -10,12 +10,13 @@ use lib.Seq.{take-length, drop-cons, getD-take, length-take-le}
 use Rattle.fileblocks.specs.FileBlock.{checkAt, weighted, checkOf}
 use Rattle.fileblocks.proofs.FileBlock.{check-front}
 
--- the total of some bytes, from the last to the first
+-- the total of some numbers, added from the last to the first
 unfoldable pub total : List ℕ → ℕ
 total [] = 0
 total (byte ∷ bytes) = total bytes + byte
 
--- the column of the running totals: beside each byte the total of it and of all behind it
+-- the running totals, from the last byte to the first: beside each byte the total of it and of all behind it, so that the sheet's last
+-- row, that of the first byte, stands in front
 unfoldable pub totals : List ℕ → List ℕ
 totals [] = []
 totals (byte ∷ bytes) = total (byte ∷ bytes) ∷ totals bytes
@@ -61,7 +62,7 @@ check-columns block h =
 abbrev inRows : List ℕ → ℕ → List ℕ
 inRows block rows = drop (checkAt - rows) (take checkAt block)
 
--- what the two columns have after so many rows; both are small
+-- after so many rows: `above`, the total above the next row, is that of their bytes, `sum` is the sum of their totals, and both are small
 pub record Rows (block : List ℕ) (rows above sum : ℕ) : Type 0 where
   pub within : rows ≤ checkAt
   pub above-is : above ≡ total (inRows block rows)

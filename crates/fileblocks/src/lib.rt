@@ -27,8 +27,9 @@ fn wide(byte: u8) -> u32
     byte as u32
 }
 
-// The check of a block, in two columns as a spreadsheet has them: row 1 has byte 507, row 508 byte 0. A row's total is the total above
-// it and its byte; the totals are summed up, and 1 is added at the end. No total is above 508·255, so that 32 bits hold the sum.
+// The check of a block, 1 and the sum of (k+1)·byte k, in two columns as a spreadsheet has them: row 1 has byte 507, row 508 byte 0. A
+// row's total is the total above it and its byte, and the sum adds up the totals: byte k is in k+1 of them. None of the 508 totals is
+// above 508·255, so that 32 bits hold the sum.
 fn check(block: &[u8]) -> u32
     requires { ⌜ checkAt ≤ length (now block) ⌝ }
     ensures { λ r. ⌜ r ≡ checkOf (now (block .entry)) ⌝ }

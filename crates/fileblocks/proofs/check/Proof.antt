@@ -1,5 +1,5 @@
--- `fileblocks::check` meets its contract. The invariant of its loop: the two columns have what stands in the rows so far, and it is small.
--- The measure is how many rows are left. Assumes nothing.
+-- `fileblocks::check` meets its contract. The invariant of its loop: `total` is the running total of the rows so far and `sum` the sum of
+-- their totals, both small. The measure is how many rows are left. Assumes nothing.
 use Prim.Native.Nat.{_-_}
 use borrow.Author.Needs.{needs}
 use native.Mathlib.Omega.{arith}
