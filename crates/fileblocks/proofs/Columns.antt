@@ -62,7 +62,8 @@ check-columns block h =
 abbrev inRows : List ℕ → ℕ → List ℕ
 inRows block rows = drop (checkAt - rows) (take checkAt block)
 
--- after so many rows: `above`, the total above the next row, is that of their bytes, `sum` is the sum of their totals, and both are small
+-- after so many rows: `above`, the total above the next row, is that of their bytes, and `sum` is the sum of their totals; no total is
+-- above 508·255, which is 129540
 pub record Rows (block : List ℕ) (rows above sum : ℕ) : Type 0 where
   pub within : rows ≤ checkAt
   pub above-is : above ≡ total (inRows block rows)
