@@ -44,22 +44,28 @@ static double median(double *v, int n) {
 }
 
 // What the calls of a row use. `units` and `sum` are what the call came to.
-static uint32_t periods[SOURCES], weights[SOURCES];
+static uint32_t periods[SOURCES], weights[SOURCES], phases[SOURCES];
 static size_t sources;
-static uint32_t period_of[CALLS], remainder_of[CALLS], interval_of[CALLS];
+static source source_of[CALLS];
+static uint32_t remainder_of[CALLS], interval_of[CALLS];
 static uint64_t starts[CALLS];
 static run r;
 static uint8_t *map, *file;
 static uint64_t *room;
 static uint64_t units, sum;
 
-static void choose(const set *s) {
+// A set's periods and weights, always the same; the phases are any below the periods, or 0. They are drawn last and only where they
+// are wanted, so that the rows without them have the intervals that they always had.
+static void choose(const set *s, int phased) {
     sources = s->count, seed = 88172645463325252u;
     for (size_t k = 0; k < sources; k++) {
         periods[k] = s->low + any() % (s->high - s->low + 1);
         weights[k] = 1 + any() % 8;
     }
+    for (size_t k = 0; k < sources; k++) phases[k] = phased ? any() % periods[k] : 0;
 }
+
+static source source_at(size_t k) { return (source){periods[k], phases[k]}; }
 
 static uint64_t sum_of(const void *bytes, uint64_t length) {
     const uint8_t *at = bytes;
@@ -76,17 +82,21 @@ static uint64_t sum_of(const void *bytes, uint64_t length) {
 
 static uint64_t count_hits(void) {
     uint64_t hits = 0, next;
-    for (size_t k = 0; k < sources; k++) hits += gcc_list(r, periods[k], 0, room, LONGEST, &next);
+    for (size_t k = 0; k < sources; k++) hits += gcc_list(r, source_at(k), 0, room, LONGEST, &next);
     return hits;
 }
 
 static void add(int who) {
     uint64_t all = cells_of(r);
-    if (who == OURS && zenithgong_add_to_map(r.window, r.interval, r.first, r.last, periods, sources, weights, sources, map, all).refusal) exit(3);
-    if (who == NAIVE) gcc_naive(r, periods, weights, sources, map);
-    if (who == GCC) gcc_walk(r, periods, weights, sources, map);
-    if (who == CLANG) clang_walk(r, periods, weights, sources, map);
-    if (who == RUST) rust_walk(r, periods, weights, sources, map);
+    if (who == OURS) {
+        added_reply a = zenithgong_add_to_map(r.window, r.interval, r.first, r.last, periods, sources, weights, sources, phases, sources,
+                                              map, all);
+        if (a.refusal) exit(3);
+    }
+    if (who == NAIVE) gcc_naive(r, periods, weights, phases, sources, map);
+    if (who == GCC) gcc_walk(r, periods, weights, phases, sources, map);
+    if (who == CLANG) clang_walk(r, periods, weights, phases, sources, map);
+    if (who == RUST) rust_walk(r, periods, weights, phases, sources, map);
     if (who == LIMIT) memset(map, r.interval, all);
 }
 
@@ -105,9 +115,9 @@ static double call_map(int who) {
 // What each call is given: another interval every time, and its remainder. Outside the measured time.
 static void prepare(void) {
     for (uint32_t k = 0; k < CALLS; k++) {
-        period_of[k] = periods[k % sources];
+        source_of[k] = source_at(k % sources);
         interval_of[k] = r.interval + 2 * k;
-        remainder_of[k] = interval_of[k] % period_of[k];
+        remainder_of[k] = interval_of[k] % source_of[k].period;
     }
 }
 
@@ -116,7 +126,7 @@ static double call_vectors(int who) {
     prepare();
     double began = seconds();
     for (uint32_t k = 0; k < CALLS; k++) {
-        uint32_t p = period_of[k], remainder = remainder_of[k];
+        uint32_t p = source_of[k].period, remainder = remainder_of[k];
         pair v;
         if (who == OURS) {
             steps_reply s;
@@ -139,16 +149,16 @@ static double call_first(int who) {
     prepare();
     double began = seconds();
     for (uint32_t k = 0; k < CALLS; k++) {
-        uint32_t p = period_of[k];
+        source s = source_of[k];
         uint64_t cell;
         at.interval = interval_of[k];
         if (who == OURS) {
-            first_hit_reply f = zenithgong_first_hit(at.window, at.interval, at.first, at.last, p, starts[k]);
+            first_hit_reply f = zenithgong_first_hit(at.window, at.interval, at.first, at.last, s.period, s.phase, starts[k]);
             cell = f.found ? f.cell : all;
         } else {
-            cell = who == GCC     ? gcc_first_hit(at, p, starts[k])
-                   : who == CLANG ? clang_first_hit(at, p, starts[k])
-                                  : rust_first_hit(at, p, starts[k]);
+            cell = who == GCC     ? gcc_first_hit(at, s, starts[k])
+                   : who == CLANG ? clang_first_hit(at, s, starts[k])
+                                  : rust_first_hit(at, s, starts[k]);
         }
         total = total * 31 + cell;
     }
@@ -162,16 +172,17 @@ static double call_list(int who) {
     memset(room, 0, ROOM * 8);
     double began = seconds();
     for (size_t k = 0; k < sources; k++, at.interval += 2) {
+        source s = source_at(k);
         if (who == OURS) {
             listing_reply l;
-            zenithgong_list_hits(&l, at.window, at.interval, at.first, at.last, periods[k], 0, room + done, ROOM - done);
+            zenithgong_list_hits(&l, at.window, at.interval, at.first, at.last, s.period, s.phase, 0, room + done, ROOM - done);
             done += l.count;
         } else if (who == GCC) {
-            done += gcc_list(at, periods[k], 0, room + done, ROOM - done, &next);
+            done += gcc_list(at, s, 0, room + done, ROOM - done, &next);
         } else if (who == RUST) {
-            done += rust_list(at, periods[k], 0, room + done, ROOM - done, &next);
+            done += rust_list(at, s, 0, room + done, ROOM - done, &next);
         } else {
-            done += clang_list(at, periods[k], 0, room + done, ROOM - done, &next);
+            done += clang_list(at, s, 0, room + done, ROOM - done, &next);
         }
     }
     double took = seconds() - began;
@@ -316,64 +327,97 @@ static void measure(const char *row, const char *unit, double (*call)(int), cons
     fflush(stdout);
 }
 
-// A run of so many MiB. From line 0 every source has a hit on the first line, from line 1 few with a long period have.
+// ---- the rows
+
+static const uint32_t WINDOWS[] = {64, 512, 4096};
+static const int SIZES[] = {1, 64};
+// What the name of a row ends its first word with if the sources have phases.
+static const char *const PHASED[] = {"", "-phased"};
+
+// A run of so many MiB. From line 0 every source of phase 0 has a hit on the first line, from line 1 few with a long period have.
 static void take_run(uint32_t window, uint64_t mib, uint32_t first) {
     r = (run){window, 1, first, first + (uint32_t)((mib << 20) / window) - 1};
 }
 
-static void measure_all(void) {
+// The map from line 1, from line 0, and from line 1 with phases.
+static void measure_maps(void) {
+    static const struct {
+        const char *name;
+        uint32_t first;
+        int phased;
+    } kinds[] = {{"map", 1, 0}, {"map0", 0, 0}, {"map", 1, 1}};
     char row[64];
-    static const uint32_t windows[] = {64, 512, 4096};
-    static const int sizes[] = {1, 64};
-    for (int k = 0; k < 2 * 3 * 2 * 3; k++) {
-        int zero = k / 18, s = k / 6 % 3, size = k / 3 % 2, w = k % 3;
-        choose(&SETS[s]);
-        take_run(windows[w], sizes[size], zero ? 0 : 1);
-        snprintf(row, sizeof row, "%s %s %u %d", zero ? "map0" : "map", SETS[s].name, windows[w], sizes[size]);
+    for (int k = 0; k < 3 * 3 * 2 * 3; k++) {
+        int kind = k / 18, s = k / 6 % 3, size = k / 3 % 2, w = k % 3, phased = kinds[kind].phased;
+        choose(&SETS[s], phased);
+        take_run(WINDOWS[w], SIZES[size], kinds[kind].first);
+        snprintf(row, sizeof row, "%s%s %s %u %d", kinds[kind].name, PHASED[phased], SETS[s].name, WINDOWS[w], SIZES[size]);
         measure(row, "hit", call_map, "++++++");
     }
-    for (int s = 1; s < 3; s++)
-        for (int w = 0; w < 3; w++) {
-            choose(&SETS[s]);
-            take_run(windows[w], 64, 1);
-            for (int k = 0; k < CALLS; k++) starts[k] = any() % cells_of(r);
-            snprintf(row, sizeof row, "vectors %s %u -", SETS[s].name, windows[w]);
-            measure(row, "call", call_vectors, "+-+++-");
-            snprintf(row, sizeof row, "first %s %u 64", SETS[s].name, windows[w]);
-            measure(row, "call", call_first, "+-+++-");
-        }
-    for (int s = 0; s < 2; s++)
-        for (int w = 0; w < 3; w++) {
-            choose(&SETS[s]);
-            take_run(windows[w], s ? 64 : 1, 1);
-            snprintf(row, sizeof row, "list %s %u %d", SETS[s].name, windows[w], s ? 64 : 1);
-            measure(row, "hit", call_list, "+-+++-");
-        }
+}
+
+// The first hit, and without phases the vectors, which have none.
+static void measure_calls(const set *s, uint32_t window, int phased) {
+    char row[64];
+    choose(s, phased);
+    take_run(window, 64, 1);
+    for (int k = 0; k < CALLS; k++) starts[k] = any() % cells_of(r);
+    snprintf(row, sizeof row, "vectors %s %u -", s->name, window);
+    if (!phased) measure(row, "call", call_vectors, "+-+++-");
+    snprintf(row, sizeof row, "first%s %s %u 64", PHASED[phased], s->name, window);
+    measure(row, "call", call_first, "+-+++-");
+}
+
+static void measure_list(const set *s, uint32_t window, int mib, int phased) {
+    char row[64];
+    choose(s, phased);
+    take_run(window, mib, 1);
+    snprintf(row, sizeof row, "list%s %s %u %d", PHASED[phased], s->name, window, mib);
+    measure(row, "hit", call_list, "+-+++-");
+}
+
+static void measure_files(void) {
+    char row[64];
     for (int k = 0; k < 2 * 2; k++) {
         int columns = k / 2, size = k % 2;
         const char *name = columns ? "columns" : "weighted";
         check_by = columns ? COLUMNS : WEIGHTED;
-        take_run(512, sizes[size], 1);
+        take_run(512, SIZES[size], 1);
         for (uint64_t cell = 0; cell < cells_of(r); cell++) map[cell] = any();
-        snprintf(row, sizeof row, "save %s 512 %d", name, sizes[size]);
+        snprintf(row, sizeof row, "save %s 512 %d", name, SIZES[size]);
         measure(row, "cell", call_save, "+-++-+");
-        snprintf(row, sizeof row, "read %s 512 %d", name, sizes[size]);
+        snprintf(row, sizeof row, "read %s 512 %d", name, SIZES[size]);
         measure(row, "cell", call_read, "+-++-+");
     }
+}
+
+static void measure_blanking(void) {
+    char row[64];
     for (int k = 0; k < 2 * 2 * 2; k++) {
         int dense = k / 4, all = k / 2 % 2, size = k % 2;
-        take_run(512, sizes[size], 1);
+        take_run(512, SIZES[size], 1);
         g = all ? (guard){200, -256, 255} : (guard){200, -128, 127};
-        snprintf(row, sizeof row, "blank %s-%s 512 %d", dense ? "dense" : "sparse", all ? "all" : "half", sizes[size]);
+        snprintf(row, sizeof row, "blank %s-%s 512 %d", dense ? "dense" : "sparse", all ? "all" : "half", SIZES[size]);
         if (wanted(row)) fill(dense);
         measure(row, "line", call_blank, "+-++++");
     }
 }
 
+// With phases there is one row of the first hit and one of the listing: a phase moves where a search begins, not how it goes on.
+static void measure_all(void) {
+    measure_maps();
+    for (int k = 0; k < 2 * 3; k++) measure_calls(&SETS[1 + k / 3], WINDOWS[k % 3], 0);
+    measure_calls(&SETS[1], 512, 1);
+    for (int k = 0; k < 2 * 3; k++) measure_list(&SETS[k / 3], WINDOWS[k % 3], SIZES[k / 3], 0);
+    measure_list(&SETS[1], 512, 64, 1);
+    measure_files();
+    measure_blanking();
+}
+
 // One call of one contender, for a tool that counts instructions, and its hits. With no contender, what is not the call's.
 static void count(const char *name, uint32_t window, uint64_t mib, int who) {
     for (int s = 0; s < 3; s++)
-        if (!strcmp(SETS[s].name, name)) choose(&SETS[s]);
+        if (!strcmp(SETS[s].name, name)) choose(&SETS[s], 0);
     take_run(window, mib, 1);
     r.interval = 1234567891;
     add(who);

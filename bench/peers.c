@@ -11,13 +11,18 @@
 
 static inline uint8_t plus(uint8_t cell, uint8_t weight) { return cell > 255 - weight ? 255 : cell + weight; }
 
+// How far right of the window's left edge a source's first edge on a line is; it may lie past the window.
+static inline uint32_t distance(run r, source s, uint64_t line) {
+    return (r.interval * line + r.window / 2 + (s.period - s.phase)) % s.period;
+}
+
 // On each line a remainder, then every period-th cell.
-void NAME(naive)(run r, const uint32_t *periods, const uint32_t *weights, size_t n, uint8_t *map) {
+void NAME(naive)(run r, LISTS, size_t n, uint8_t *map) {
     for (size_t k = 0; k < n; k++) {
-        uint32_t p = periods[k];
+        source s = {periods[k], phases[k]};
         uint8_t weight = weights[k], *line = map;
         for (uint64_t j = r.first; j <= r.last; j++, line += r.window)
-            for (uint64_t x = (r.interval * j + r.window / 2) % p; x < r.window; x += p) line[x] = plus(line[x], weight);
+            for (uint64_t x = distance(r, s, j); x < r.window; x += s.period) line[x] = plus(line[x], weight);
     }
 }
 
@@ -40,10 +45,10 @@ pair NAME(vectors)(uint32_t period, uint32_t remainder, uint32_t window) {
 }
 
 // The first hit not below `start`, or the number of cells: a point is carried down the same divisions into the window.
-uint64_t NAME(first_hit)(run r, uint32_t period, uint64_t start) {
-    uint32_t window = r.window;
+uint64_t NAME(first_hit)(run r, source s, uint64_t start) {
+    uint32_t window = r.window, period = s.period;
     uint64_t row = start / window, from = start % window, line = r.first + row;
-    uint32_t d = (r.interval * line + window / 2) % period;
+    uint32_t d = distance(r, s, line);
     uint64_t place = from + (d + (period - from % period)) % period;
     if (place < window) return row * window + place;
     uint32_t n = period, m = r.interval % period;
@@ -97,8 +102,9 @@ static inline void step(const plan *w, int64_t *i, uint64_t *x) {
 }
 
 // A source with a period below the window: each line's first distance is the last line's and the interval.
-static void add_rows(run r, uint32_t p, uint8_t weight, uint8_t *map) {
-    uint64_t start = ((uint64_t)r.interval * r.first + r.window / 2) % p, by = r.interval % p;
+static void add_rows(run r, source s, uint8_t weight, uint8_t *map) {
+    uint32_t p = s.period;
+    uint64_t start = distance(r, s, r.first), by = r.interval % p;
     for (uint8_t *line = map, *end = map + cells_of(r); line < end; line += r.window) {
         for (uint64_t x = start; x < r.window; x += p) line[x] = plus(line[x], weight);
         start += by;
@@ -106,9 +112,9 @@ static void add_rows(run r, uint32_t p, uint8_t weight, uint8_t *map) {
     }
 }
 
-static void add_hits(run r, uint32_t p, uint8_t weight, uint8_t *map) {
-    plan w = plan_of(r, p);
-    uint64_t all = cells_of(r), x = NAME(first_hit)(r, p, 0);
+static void add_hits(run r, source s, uint8_t weight, uint8_t *map) {
+    plan w = plan_of(r, s.period);
+    uint64_t all = cells_of(r), x = NAME(first_hit)(r, s, 0);
     int64_t i = (int64_t)(x % r.window) - r.window / 2;
     while (x < all) {
         map[x] = plus(map[x], weight);
@@ -116,19 +122,21 @@ static void add_hits(run r, uint32_t p, uint8_t weight, uint8_t *map) {
     }
 }
 
-void NAME(walk)(run r, const uint32_t *periods, const uint32_t *weights, size_t n, uint8_t *map) {
+void NAME(walk)(run r, LISTS, size_t n, uint8_t *map) {
     for (size_t k = 0; k < n; k++) {
-        if (periods[k] < r.window)
-            add_rows(r, periods[k], weights[k], map);
+        source s = {periods[k], phases[k]};
+        if (s.period < r.window)
+            add_rows(r, s, weights[k], map);
         else
-            add_hits(r, periods[k], weights[k], map);
+            add_hits(r, s, weights[k], map);
     }
 }
 
 // The hits not below `start` into the room; `next` is the first that did not fit, or the number of cells.
-size_t NAME(list)(run r, uint32_t period, uint64_t start, uint64_t *room, size_t length, uint64_t *next) {
+size_t NAME(list)(run r, source s, uint64_t start, uint64_t *room, size_t length, uint64_t *next) {
+    uint32_t period = s.period;
     plan w = plan_of(r, period);
-    uint64_t all = cells_of(r), cell = NAME(first_hit)(r, period, start), from = cell % r.window;
+    uint64_t all = cells_of(r), cell = NAME(first_hit)(r, s, start), from = cell % r.window;
     uint64_t x = cell - from + from % period, end = x - from % period + r.window;
     int64_t i = (int64_t)(from % period) - r.window / 2;
     size_t n = 0;

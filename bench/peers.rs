@@ -9,6 +9,14 @@ pub struct Run {
     last: u32,
 }
 
+/// A source, less its weight: it has an edge at its phase, and whole periods before and after it.
+#[repr(C)]
+#[derive(Clone, Copy)]
+pub struct Source {
+    period: u32,
+    phase: u32,
+}
+
 #[repr(C)]
 #[derive(Clone, Copy)]
 pub struct Vector {
@@ -101,16 +109,18 @@ fn seek(run: Run, period: u32, mut line: u64, mut d: u32) -> u64 {
     }
 }
 
-fn distance(run: Run, period: u32, line: u64) -> u32 {
-    ((run.interval as u64 * line + run.window as u64 / 2) % period as u64) as u32
+/// How far right of the window's left edge a source's first edge on a line is; it may lie past the window.
+fn distance(run: Run, source: Source, line: u64) -> u32 {
+    let lacking = source.period - source.phase;
+    ((run.interval as u64 * line + run.window as u64 / 2 + lacking as u64) % source.period as u64) as u32
 }
 
 /// The first hit not below a cell, or the number of cells.
-fn first_hit(run: Run, period: u32, start: u64) -> u64 {
-    let window = run.window as u64;
+fn first_hit(run: Run, source: Source, start: u64) -> u64 {
+    let (window, period) = (run.window as u64, source.period);
     let (row, from) = (start / window, start % window);
     let line = run.first as u64 + row;
-    let d = distance(run, period, line);
+    let d = distance(run, source, line);
     let at = from + (d as u64 + (period as u64 - from % period as u64)) % period as u64;
     if at < window {
         return row * window + at;
@@ -123,8 +133,9 @@ fn cells(run: Run) -> u64 {
     run.window as u64 * (run.last - run.first + 1) as u64
 }
 
-fn add_rows(run: Run, period: usize, weight: u8, map: &mut [u8]) {
-    let mut start = ((run.interval as u64 * run.first as u64 + run.window as u64 / 2) % period as u64) as usize;
+fn add_rows(run: Run, source: Source, weight: u8, map: &mut [u8]) {
+    let period = source.period as usize;
+    let mut start = distance(run, source, run.first as u64) as usize;
     let by = run.interval as usize % period;
     for line in map.chunks_exact_mut(run.window as usize) {
         let mut x = start;
@@ -139,9 +150,10 @@ fn add_rows(run: Run, period: usize, weight: u8, map: &mut [u8]) {
     }
 }
 
-fn add_hits(run: Run, period: u32, weight: u8, map: &mut [u8]) {
-    let plan = plan(run, period);
-    let mut x = seek(run, period, run.first as u64, distance(run, period, run.first as u64));
+fn add_hits(run: Run, source: Source, weight: u8, map: &mut [u8]) {
+    let plan = plan(run, source.period);
+    let first = run.first as u64;
+    let mut x = seek(run, source.period, first, distance(run, source, first));
     let mut i = (x % run.window as u64) as i64 - run.window as i64 / 2;
     while let Some(cell) = map.get_mut(x as usize) {
         *cell = cell.saturating_add(weight);
@@ -150,10 +162,11 @@ fn add_hits(run: Run, period: u32, weight: u8, map: &mut [u8]) {
 }
 
 /// The hits not below a cell into the room, their number, and the first that did not fit or the number of cells.
-fn list(run: Run, period: u32, start: u64, room: &mut [u64]) -> (usize, u64) {
+fn list(run: Run, source: Source, start: u64, room: &mut [u64]) -> (usize, u64) {
+    let period = source.period;
     let plan = plan(run, period);
     let (all, window, half) = (cells(run), run.window as u64, run.window as i64 / 2);
-    let mut cell = first_hit(run, period, start);
+    let mut cell = first_hit(run, source, start);
     let from = cell % window;
     let mut x = cell - from + from % period as u64;
     let mut i = (from % period as u64) as i64 - half;
@@ -220,15 +233,15 @@ pub extern "C" fn rust_vectors(period: u32, remainder: u32, window: u32) -> Pair
 }
 
 #[no_mangle]
-pub extern "C" fn rust_first_hit(run: Run, period: u32, start: u64) -> u64 {
-    first_hit(run, period, start)
+pub extern "C" fn rust_first_hit(run: Run, source: Source, start: u64) -> u64 {
+    first_hit(run, source, start)
 }
 
 /// # Safety
 /// The room has `length` numbers, and `next` is one.
 #[no_mangle]
-pub unsafe extern "C" fn rust_list(run: Run, period: u32, start: u64, room: *mut u64, length: usize, next: *mut u64) -> usize {
-    let (n, after) = list(run, period, start, std::slice::from_raw_parts_mut(room, length));
+pub unsafe extern "C" fn rust_list(run: Run, source: Source, start: u64, room: *mut u64, length: usize, next: *mut u64) -> usize {
+    let (n, after) = list(run, source, start, std::slice::from_raw_parts_mut(room, length));
     *next = after;
     n
 }
@@ -236,15 +249,16 @@ pub unsafe extern "C" fn rust_list(run: Run, period: u32, start: u64, room: *mut
 /// # Safety
 /// The lists have `n` numbers and the map the run's cells.
 #[no_mangle]
-pub unsafe extern "C" fn rust_walk(run: Run, periods: *const u32, weights: *const u32, n: usize, map: *mut u8) {
+pub unsafe extern "C" fn rust_walk(run: Run, periods: *const u32, weights: *const u32, phases: *const u32, n: usize, map: *mut u8) {
     let cells = run.window as usize * (run.last - run.first + 1) as usize;
-    let (periods, weights) = (std::slice::from_raw_parts(periods, n), std::slice::from_raw_parts(weights, n));
+    let list = |numbers| std::slice::from_raw_parts(numbers, n);
     let map = std::slice::from_raw_parts_mut(map, cells);
-    for (&period, &weight) in periods.iter().zip(weights) {
+    for ((&period, &weight), &phase) in list(periods).iter().zip(list(weights)).zip(list(phases)) {
+        let source = Source { period, phase };
         if period < run.window {
-            add_rows(run, period as usize, weight as u8, map);
+            add_rows(run, source, weight as u8, map);
         } else {
-            add_hits(run, period, weight as u8, map);
+            add_hits(run, source, weight as u8, map);
         }
     }
 }

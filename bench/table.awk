@@ -1,7 +1,9 @@
 # The rows of main.c as a table, and what is aimed at (docs/DECISIONS.md says why).
 BEGIN {
     FS = "\t"
-    what["map"] = "map"; what["map0"] = "map from line 0"; what["vectors"] = "vectors"; what["first"] = "first hit"; what["list"] = "listing"
+    what["map"] = "map"; what["map0"] = "map from line 0"; what["map-phased"] = "map with phases"; what["vectors"] = "vectors"
+    what["first"] = "first hit"; what["first-phased"] = "first hit with phases"
+    what["list"] = "listing"; what["list-phased"] = "listing with phases"
     what["save"] = "save"; what["read"] = "read"; what["blank"] = "blanking list"; what["count"] = "map, instructions"
     print "Every figure but ours is a time divided by ours: above 1, ours is faster. *Naive* takes a remainder on each line, *C*, *clang* and"
     print "*Rust* go the same walk without blocks, *limit* is a `memset` of the map (`memcpy` of the cells for save and read). The time is the"
@@ -9,13 +11,14 @@ BEGIN {
     print "contenders must leave the same bytes. Medians of 5 to 41 repetitions, the ratios taken within a repetition. Periods by a fixed seed:"
     print "30 of 3 to 2,000 (mix), 1,000 of 4,096 to 2^20, 1,000 of 4,096 to 2^31. The peers judge nothing that they are given but the blocks of"
     print "a file and the room of a blanking list; ours judges all of it, within the time. The rows *map, instructions* are counts by callgrind,"
-    print "with the set-up, and their ratios are ratios of counts. Runs begin at line 1, where few sources with a long period have a hit; in the"
-    print "rows *map from line 0* every source has one on the first line, so that its vectors are always worked out. In the rows *save* and"
-    print "*read* the column of the periods says how *C* and *clang* work out a block's check, by its weighted sum or in two columns; ours always"
-    print "has the columns, as request E4 wants them. In the rows *blanking list* the column of the periods says how many lines reach the"
-    print "threshold (one of 50 by any cell, or 15 of 16 by one of the guard's first eight) and how much of the window is guarded; *C*, *clang*"
-    print "and *Rust* go over the lines twice as ours does, to count the stretches and to write them, and the *limit* is one pass over the guard"
-    print "cells that have to be looked at, for the largest of each line."
+    print "with the set-up, and their ratios are ratios of counts. Runs begin at line 1, where few sources with a long period have a hit; in"
+    print "the rows *map from line 0* every source has one on the first line, so that its vectors are always worked out. All phases are 0 but"
+    print "in the rows *with phases*, where they are any below the periods, by the same seed. In the rows *save* and *read* the column of the"
+    print "periods says how *C* and *clang* work out a block's check, by its weighted sum or in two columns; ours always has the columns, as"
+    print "request E4 wants them. In the rows *blanking list* the column of the periods says how many lines reach the threshold (one of 50 by"
+    print "any cell, or 15 of 16 by one of the guard's first eight) and how much of the window is guarded; *C*, *clang* and *Rust* go over the"
+    print "lines twice as ours does, to count the stretches and to write them, and the *limit* is one pass over the guard cells that have to be"
+    print "looked at, for the largest of each line."
     print ""
     print "| what | periods | window | MiB | ours | naive | C, gcc -O2 | C, clang -O3 | Rust | limit |"
     print "|---|---|--:|--:|--:|--:|--:|--:|--:|--:|"
@@ -49,6 +52,11 @@ function peers(text, set, size, least) {
     peer(text, set, size, least, "gcc", gcc)
     peer(text, set, size, least, "Rust", rust)
 }
+# The same of a row at the window of 512 alone.
+function peers_at_512(text, row, least) {
+    aim("gcc / ours, " text, gcc[row], least)
+    aim("Rust / ours, " text, rust[row], least)
+}
 
 END {
     split("64 512 4096", windows, " ")
@@ -56,20 +64,20 @@ END {
     print "| aimed at, at windows of | aim | 64 | 512 | 4096 | |"
     print "|---|--:|--:|--:|--:|---|"
     n = split("mix 1 1.0,mix 64 1.0,2^20 1 1.0,2^20 64 1.0,2^31 1 1.5,2^31 64 1.5", rows, ",")
-    for (k = 1; k <= n; k++) {
-        split(rows[k], name, " ")
-        peers("map, " name[1] ", " name[2] " MiB", "map " name[1], name[2], name[3])
-    }
-    for (k = 1; k <= n; k++) {
-        split(rows[k], name, " ")
-        peers("map from line 0, " name[1] ", " name[2] " MiB", "map0 " name[1], name[2], name[3])
+    kinds = split("map,map0,map-phased", kind, ",")
+    for (j = 0; j < kinds * n; j++) {
+        map = kind[1 + int(j / n)]
+        split(rows[1 + j % n], name, " ")
+        peers(what[map] ", " name[1] ", " name[2] " MiB", map " " name[1], name[2], name[3])
     }
     peers("first hit, 2^20", "first 2^20", 64, 1.0)
     peers("first hit, 2^31", "first 2^31", 64, 1.0)
+    peers_at_512("first hit with phases, 2^20", "first-phased 2^20 512 64", 1.0)
     peers("vectors, 2^20", "vectors 2^20", "-", 0.9)
     peers("vectors, 2^31", "vectors 2^31", "-", 0.9)
     peers("listing, mix, 1 MiB", "list mix", 1, 0.9)
     peers("listing, 2^20, 64 MiB", "list 2^20", 64, 0.9)
+    peers_at_512("listing with phases, 2^20, 64 MiB", "list-phased 2^20 512 64", 0.9)
     n = split("mix 1 2.5,mix 64 4,2^20 1 45,2^20 64 45,2^31 1 45,2^31 64 1000", rows, ",")
     for (k = 1; k <= n; k++) {
         split(rows[k], name, " ")

@@ -103,25 +103,25 @@ cleared-cell c gain x zero k h = absurd (omega arith)
 cleared-cell c gain x (suc n) zero h = rw (add-zero x) (omega arith)
 cleared-cell c gain x (suc n) (suc k) h = rw (add-suc, ← suc-add) (cleared-cell c gain (suc x) n k (omega arith))
 
-module _ {c : ℕ} {run : Run} {periods weights map : List ℕ} (made : MapPromiseAt c run periods weights (zeros (cellsOf run)) Done·added map) where
+module _ {c : ℕ} {run : Run} {periods weights phases map : List ℕ} (made : MapPromiseAt c run periods weights phases (zeros (cellsOf run)) Done·added map) where
   -- what the map call leaves of it
-  made-cell : (x : ℕ) → x < cellsOf run → getD map x 0 ≡ capped c (weightAt run (entriesOf periods weights) x)
+  made-cell : (x : ℕ) → x < cellsOf run → getD map x 0 ≡ capped c (weightAt run (entriesOf periods weights phases) x)
   unfolding added
   made-cell x inside =
       let start = zeros (cellsOf run) in
-      let passes = said-answered (mapTests c run periods weights start) (made .says) .0 in
-      let is : map ≡ added c run (entriesOf periods weights) start = made .stores ∙ sym (grant-stored start (added c run (entriesOf periods weights) start) passes) in
+      let passes = said-answered (mapTests c run periods weights phases start) (made .says) .0 in
+      let is : map ≡ added c run (entriesOf periods weights phases) start = made .stores ∙ sym (grant-stored start (added c run (entriesOf periods weights phases) start) passes) in
       let none : 0 + x ≡ x = omega arith in
-      ap (λ l. getD l x 0) is ∙ cleared-cell c (weightAt run (entriesOf periods weights)) 0 (cellsOf run) x inside ∙ rw none
+      ap (λ l. getD l x 0) is ∙ cleared-cell c (weightAt run (entriesOf periods weights phases)) 0 (cellsOf run) x inside ∙ rw none
 
   -- Of a map that the map call made of a cleared one, and a threshold up to the ceiling: a line has a guard cell at or above the
   -- threshold exactly if the weights of the hits of a guard cell of it sum to the threshold or more.
-  pub blanked-disturbed : (threshold : ℕ) → threshold ≤ c → (guard : Guard) (j : ℕ) → Blanked run map threshold guard j ↔ Disturbed run (entriesOf periods weights) threshold guard j
+  pub blanked-disturbed : (threshold : ℕ) → threshold ≤ c → (guard : Guard) (j : ℕ) → Blanked run map threshold guard j ↔ Disturbed run (entriesOf periods weights phases) threshold guard j
   blanked-disturbed threshold low guard j = (
     λ b. record { cell = b .cell; guarded = b .guarded; sums = omega (arith, made-cell (b .cell) (b .guarded .inside), b .reaches) },
     λ d. record { cell = d .cell; guarded = d .guarded; reaches = omega (arith, made-cell (d .cell) (d .guarded .inside), d .sums) },
   )
 
   -- So a line is in a stretch of the list exactly if some guard cell of it has weights of its hits that sum to the threshold or more.
-  pub listed-disturbed : {threshold : ℕ} → threshold ≤ c → {guard : Guard} {room after : List ℕ} {count : ℕ} → BlankingPromise run map threshold guard room (Done count) after → (j : ℕ) → ListedIn after count j ↔ Disturbed run (entriesOf periods weights) threshold guard j
+  pub listed-disturbed : {threshold : ℕ} → threshold ≤ c → {guard : Guard} {room after : List ℕ} {count : ℕ} → BlankingPromise run map threshold guard room (Done count) after → (j : ℕ) → ListedIn after count j ↔ Disturbed run (entriesOf periods weights phases) threshold guard j
   listed-disturbed {threshold} low {guard} h j = Iff·trans (listed-blanked h j) (blanked-disturbed threshold low guard j)

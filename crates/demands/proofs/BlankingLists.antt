@@ -39,8 +39,8 @@ listed-blanked run map threshold guard room after count h = Meaning.listed-blank
 
 -- Where the map is what the map call leaves of a cleared map and a list of sources, and the threshold is not above the ceiling: a line is
 -- in a stretch exactly if some guard cell of it has weights of its hits that sum to the threshold or more.
-pub listed-disturbed : (c : ℕ) (run : Run) (periods weights map : List ℕ) → MapPromiseAt c run periods weights (zeros (cellsOf run)) Done·added map → (threshold : ℕ) → threshold ≤ c → (guard : Guard) (room after : List ℕ) (count : ℕ) → BlankingPromise run map threshold guard room (Done count) after → (j : ℕ) → ListedIn after count j ↔ Disturbed run (entriesOf periods weights) threshold guard j
-listed-disturbed c run periods weights map made threshold low guard room after count h = Meaning.listed-disturbed made low h
+pub listed-disturbed : (c : ℕ) (run : Run) (periods weights phases map : List ℕ) → MapPromiseAt c run periods weights phases (zeros (cellsOf run)) Done·added map → (threshold : ℕ) → threshold ≤ c → (guard : Guard) (room after : List ℕ) (count : ℕ) → BlankingPromise run map threshold guard room (Done count) after → (j : ℕ) → ListedIn after count j ↔ Disturbed run (entriesOf periods weights phases) threshold guard j
+listed-disturbed c run periods weights phases map made threshold low guard room after count h = Meaning.listed-disturbed made low h
 
 -- A room of one number more than the run has lines is never refused 21.
 pub room-enough : (run : Run) (map : List ℕ) (threshold : ℕ) (guard : Guard) (room : List ℕ) → suc (linesOf run) ≤ length room → HoldsFewer run map threshold guard room → ⊥

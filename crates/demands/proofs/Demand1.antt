@@ -24,8 +24,8 @@ use Rattle.scope.specs.declared.Reason.{Reason}
 use Rattle.scope.specs.declared.Place.{Place}
 use Rattle.scope.proofs.Judged.{refused-same, sound, both}
 use Rattle.scope.proofs.Limits.{passes-when, passes-first, passes-then, valid-run, valid-run-passes, valid-source, valid-source-passes}
-use Rattle.sources.specs.Lists.{periodsOf, weightsOf, ValidEntries}
-use Rattle.sources.proofs.Entries.{entries-of, periods-length, weights-length, valid-entries, valid-entries-pass}
+use Rattle.sources.specs.Lists.{OneLength, periodsOf, weightsOf, phasesOf, ValidEntries}
+use Rattle.sources.proofs.Entries.{entries-of, one-length, valid-entries, valid-entries-pass, valid-lists}
 use Rattle.vectors.specs.declared.Steps.{Steps}
 use Rattle.vectors.specs.Vectors.{Values}
 use Rattle.vectors.specs.Promise.{vectorsTests, saysVectors, Admits, VectorsPromise}
@@ -59,7 +59,7 @@ use Rattle.report.proofs.Refusals.{refusal-told, refusal-second}
 use Rattle.report.specs.Promise.{roomBytes, ReportPromise}
 use Rattle.scope.specs.Table.{Row, _given_, Says, Silent, runTable}
 use Rattle.saved.specs.Table.{savingTable, readingTable}
-use Rattle.sources.specs.Table.{AtFault, sourcesTable}
+use Rattle.sources.specs.Table.{AtFault, sourcesTable, sourceListsTable}
 use Rattle.sources.proofs.Table as Sources
 use Rattle.vectors.specs.Table.{vectorsTable}
 use Rattle.hits.specs.Table.{firstHitTable, listingTable}
@@ -107,14 +107,14 @@ module _ (run : Run) (source : Source) (start : RunCell) where
 
 -- ---- map
 
-module _ (run : Run) (periods weights map : List ℕ) (answer : Added) (after : List ℕ) (h : MapPromise run periods weights map answer after) where
+module _ (run : Run) (periods weights phases map : List ℕ) (answer : Added) (after : List ℕ) (h : MapPromise run periods weights phases map answer after) where
   -- A reply of the map call reads "refused n" at a place exactly when its table says so.
-  pub map-refused : (n : ℕ) (place : Place) → (saysMap answer ≡ refused n place) ↔ Says (mapTable run periods weights map) n place
-  map-refused = exactly (map-renders run periods weights map) tt (saysMap answer) (h .says)
+  pub map-refused : (n : ℕ) (place : Place) → (saysMap answer ≡ refused n place) ↔ Says (mapTable run periods weights phases map) n place
+  map-refused = exactly (map-renders run periods weights phases map) tt (saysMap answer) (h .says)
 
   -- And the map then holds what it held: none is "half written before the tenth source is refused".
   pub map-keeps : (n : ℕ) (place : Place) → saysMap answer ≡ refused n place → after ≡ map
-  map-keeps = keeps (map-renders run periods weights map) tt (saysMap answer) (h .says) map (added ceiling run (entriesOf periods weights) map) after (h .stores)
+  map-keeps = keeps (map-renders run periods weights phases map) tt (saysMap answer) (h .says) map (added ceiling run (entriesOf periods weights phases) map) after (h .stores)
 
 -- ---- the blanking list
 
@@ -175,13 +175,14 @@ module _ (text : List ℕ) (input : Input) (h : TextPromise text input) where
 
   -- "a refusal carries the reason and, where it concerns a source, that place" (E1), and nothing else: no source goes with it.
   pub text-refused-alone : (reason : Reason) (place : Place) → input .answer ≡ Refused reason place → input ≡ refusal reason place
-  unfolding padded zeros periodsOf weightsOf
+  unfolding padded zeros periodsOf weightsOf phasesOf
   text-refused-alone reason place answers =
       let none-handed = go (h .content) (h .says) in
       let counts = h .counts ∙ ap length none-handed in
       let periods = h .periods ∙ ap (λ es. padded mostSources (periodsOf es)) none-handed in
       let weights = h .weights ∙ ap (λ es. padded mostSources (weightsOf es)) none-handed in
-      λ i. record { answer = answers i; count = counts i; periods = periods i; weights = weights i }
+      let phases = h .phases ∙ ap (λ es. padded mostSources (phasesOf es)) none-handed in
+      λ i. record { answer = answers i; count = counts i; periods = periods i; weights = weights i; phases = phases i }
     where
       go : (o : Option Content) → saysText (input .answer) ≡ replyTo o → handed o ≡ []
       go none e = refl
@@ -222,16 +223,17 @@ module _ (run : Run) (fits : run .interval ≤ 4294967295) where
       )
 
   -- That of the map call exactly if the run and all sources are, and the lists and the map have the right lengths.
-  pub map-silent : (periods weights map : List ℕ) → Silent (mapTable run periods weights map) ↔ (ValidRun run × (length periods ≡ length weights) × ValidEntries ceiling (entriesOf periods weights) × (length map ≡ cellsOf run))
+  pub map-silent : (periods weights phases map : List ℕ) → Silent (mapTable run periods weights phases map) ↔ (ValidRun run × OneLength periods weights phases × ValidEntries ceiling (entriesOf periods weights phases) × (length map ≡ cellsOf run))
   unfolding mapTests
-  map-silent periods weights map =
-      let entries = entriesOf periods weights in
-      let rows = map-renders run periods weights map in (
+  map-silent periods weights phases map =
+      let entries = entriesOf periods weights phases in
+      let rows = map-renders run periods weights phases map in
+      let three = valid-lists ceiling periods weights phases in (
         λ s.
             let p = rows .passes .1 s in
-            let lists = passes-first p in
-            (valid-run (passes-first (passes-first lists)) fits, same _ _ (passes-then (passes-first lists)), valid-entries ceiling 1 entries (passes-then lists), same _ _ (passes-then p)),
-        λ h. rows .passes .0 (both (both (both (valid-run-passes (h .0)) (sound (agrees refl refl (h .1)))) (valid-entries-pass ceiling 1 entries (h .2))) (sound (agrees refl refl (h .3)))),
+            let lists = three .0 (passes-then (passes-first p)) in
+            (valid-run (passes-first (passes-first p)) fits, lists .0, valid-entries ceiling 1 entries (lists .1), same _ _ (passes-then p)),
+        λ h. rows .passes .0 (both (both (valid-run-passes (h .0)) (three .1 (h .1, valid-entries-pass ceiling 1 entries (h .2)))) (sound (agrees refl refl (h .3)))),
       )
 
   -- And that of the blanking call exactly if the run is, the threshold is above 0, the guard lies upright in the window, the map has the
@@ -256,45 +258,49 @@ module _ (run : Run) (fits : run .interval ≤ 4294967295) where
 
 -- ---- a list of sources at fault
 
--- "source by source 4 before 7": what the table says of two lists is what is broken by the first source that breaks 4 or 7, at its
--- place; it is 4 if that source breaks 4.
-pub sources-at-fault : (periods weights : List ℕ) → length periods ≡ length weights → (n : ℕ) (place : Place) → Says (sourcesTable 1 (entriesOf periods weights)) n place ↔ AtFault periods weights n place
+-- "source by source": what the table says of three lists of one length is what is broken by the first source that breaks 4, 7 or 22, at
+-- its place; it is the first of these that the source breaks.
+pub sources-at-fault : (periods weights phases : List ℕ) → OneLength periods weights phases → (n : ℕ) (place : Place) → Says (sourcesTable 1 (entriesOf periods weights phases)) n place ↔ AtFault periods weights phases n place
 sources-at-fault = Sources.sources-at-fault
 
 -- The same of the sources that a text has.
-pub entries-at-fault : (entries : List Entry) (n : ℕ) (place : Place) → Says (sourcesTable 1 entries) n place ↔ AtFault (periodsOf entries) (weightsOf entries) n place
-entries-at-fault entries n place = rw (entries-of entries) at (sources-at-fault (periodsOf entries) (weightsOf entries) (periods-length entries ∙ sym (weights-length entries)) n place)
+pub entries-at-fault : (entries : List Entry) (n : ℕ) (place : Place) → Says (sourcesTable 1 entries) n place ↔ AtFault (periodsOf entries) (weightsOf entries) (phasesOf entries) n place
+entries-at-fault entries n place = rw (entries-of entries) at (sources-at-fault (periodsOf entries) (weightsOf entries) (phasesOf entries) (one-length entries) n place)
 
 -- Where the run and the lengths of the lists are in order, a map call reads "refused n" at a place, n being no 9, exactly if a source
--- is so at fault: then n is 4 or 7, and the place is that source's.
-pub map-at-fault : (run : Run) (periods weights map : List ℕ) (answer : Added) (after : List ℕ) → MapPromise run periods weights map answer after → Silent (runTable run) → length periods ≡ length weights → (n : ℕ) (place : Place) → n ≢ 9 → (saysMap answer ≡ refused n place) ↔ AtFault periods weights n place
-map-at-fault run periods weights map answer after h fine equal n place other = Iff·trans (map-refused run periods weights map answer after h n place) (Iff·trans (to, from) (sources-at-fault periods weights equal n place))
+-- is so at fault: then n is 4, 7 or 22, and the place is that source's.
+pub map-at-fault : (run : Run) (periods weights phases map : List ℕ) (answer : Added) (after : List ℕ) → MapPromise run periods weights phases map answer after → Silent (runTable run) → OneLength periods weights phases → (n : ℕ) (place : Place) → n ≢ 9 → (saysMap answer ≡ refused n place) ↔ AtFault periods weights phases n place
+map-at-fault run periods weights phases map answer after h fine equal n place other = Iff·trans (map-refused run periods weights phases map answer after h n place) (Iff·trans (to, from) (sources-at-fault periods weights phases equal n place))
   where
     sources : List Row
-    sources = sourcesTable 1 (entriesOf periods weights)
+    sources = sourcesTable 1 (entriesOf periods weights phases)
 
     room : List Row
     room = 9 given (length map ≢ cellsOf run) ∷ []
+
+    unequal : (length periods ≢ length weights) ⊎ (length periods ≢ length phases) → ⊥
+    unequal (inl k) = k (equal .0)
+    unequal (inr k) = k (equal .1)
 
     last : Says sources n place ⊎ (Silent sources × Says room n place) → Says sources n place
     last (inl k) = k
     last (inr (s, inl k)) = absurd (other (sym (k .0)))
     last (inr (s, inr k)) = absurd (k .1)
 
-    lists : Says (runTable run) n place ⊎ (Silent (runTable run) × Says (10 given (length periods ≢ length weights) ∷ (sources ++ room)) n place) → Says sources n place
+    lists : Says (runTable run) n place ⊎ (Silent (runTable run) × Says (sourceListsTable periods weights phases ++ room) n place) → Says sources n place
     lists (inl k) = absurd (silent-says (runTable run) n place fine k)
-    lists (inr (s, inl k)) = absurd (k .2 equal)
+    lists (inr (s, inl k)) = absurd (unequal (k .2))
     lists (inr (s, inr k)) = last (says-split sources room n place .0 (k .1))
 
-    to : Says (mapTable run periods weights map) n place → Says sources n place
-    to s = lists (says-split (runTable run) (10 given (length periods ≢ length weights) ∷ (sources ++ room)) n place .0 s)
+    to : Says (mapTable run periods weights phases map) n place → Says sources n place
+    to s = lists (says-split (runTable run) (sourceListsTable periods weights phases ++ room) n place .0 s)
 
-    from : Says sources n place → Says (mapTable run periods weights map) n place
-    from s = says-split (runTable run) (10 given (length periods ≢ length weights) ∷ (sources ++ room)) n place .1 (inr (fine, inr (λ k. k equal, says-split sources room n place .1 (inl s))))
+    from : Says sources n place → Says (mapTable run periods weights phases map) n place
+    from s = says-split (runTable run) (sourceListsTable periods weights phases ++ room) n place .1 (inr (fine, inr (unequal, says-split sources room n place .1 (inl s))))
 
 -- The same of a text: where it has the form, the run's rows are silent and neither its sources nor its cells are too many, it is refused
 -- exactly if one of its sources is so at fault. The place counts its `src` lines.
-says-at-fault : (text : List ℕ) (content : Content) → Spells text content → Silent (runTable (content .run)) → length (content .entries) ≤ mostSources → cellsOf (content .run) ≤ mostCells → (n : ℕ) (place : Place) → SaysOfText text n place ↔ AtFault (periodsOf (content .entries)) (weightsOf (content .entries)) n place
+says-at-fault : (text : List ℕ) (content : Content) → Spells text content → Silent (runTable (content .run)) → length (content .entries) ≤ mostSources → cellsOf (content .run) ≤ mostCells → (n : ℕ) (place : Place) → SaysOfText text n place ↔ AtFault (periodsOf (content .entries)) (weightsOf (content .entries)) (phasesOf (content .entries)) n place
 says-at-fault text content spells fine few small n place = Iff·trans (to, from) (entries-at-fault (content .entries) n place)
   where
     sources : List Row
@@ -321,9 +327,9 @@ says-at-fault text content spells fine few small n place = Iff·trans (to, from)
     from s = inr (content, spells, says-split (runTable (content .run)) many n place .1 (inr (fine, inr (few-enough, s))))
 
 module _ (text : List ℕ) (content : Content) (spells : Spells text content) (fine : Silent (runTable (content .run))) (few : length (content .entries) ≤ mostSources) (small : cellsOf (content .run) ≤ mostCells) where
-  pub text-at-fault : (input : Input) → TextPromise text input → (n : ℕ) (place : Place) → (saysText (input .answer) ≡ refused n place) ↔ AtFault (periodsOf (content .entries)) (weightsOf (content .entries)) n place
+  pub text-at-fault : (input : Input) → TextPromise text input → (n : ℕ) (place : Place) → (saysText (input .answer) ≡ refused n place) ↔ AtFault (periodsOf (content .entries)) (weightsOf (content .entries)) (phasesOf (content .entries)) n place
   text-at-fault input h n place = Iff·trans (text-refused text input h n place) (says-at-fault text content spells fine few small n place)
 
   -- And of what is printed of it.
-  pub report-at-fault : (output : Output) → ReportPromise text output → (n : ℕ) (place : Place) → (printedBy output ≡ refusalReport n place) ↔ AtFault (periodsOf (content .entries)) (weightsOf (content .entries)) n place
+  pub report-at-fault : (output : Output) → ReportPromise text output → (n : ℕ) (place : Place) → (printedBy output ≡ refusalReport n place) ↔ AtFault (periodsOf (content .entries)) (weightsOf (content .entries)) (phasesOf (content .entries)) n place
   report-at-fault output h n place = Iff·trans (report-refused text output h n place) (says-at-fault text content spells fine few small n place)

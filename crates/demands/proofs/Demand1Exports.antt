@@ -266,14 +266,14 @@ module _ (run : Run) (source : Source) (start : RunCell) where
         (rw is refl, kept e (λ a. a .refusal) saysListing listing-field (λ r h. listing-keeps run source start room r after h) some)
 
 -- `zenithgong_add_to_map`, whose answer is the refusal and its place
-module _ (run : Run) (periods weights map : List ℕ) {after : List ℕ} {a : AddedReply} (e : Exported (λ r. MapPromise run periods weights map r after) tellAdded a) where
-  pub exported-map-refused : Tells (Says (mapTable run periods weights map)) (a .refusal) (a .place)
+module _ (run : Run) (periods weights phases map : List ℕ) {after : List ℕ} {a : AddedReply} (e : Exported (λ r. MapPromise run periods weights phases map r after) tellAdded a) where
+  pub exported-map-refused : Tells (Says (mapTable run periods weights phases map)) (a .refusal) (a .place)
   exported-map-refused =
-      by-table e (λ a. a .refusal) saysMap added-field (λ a. a .place) (λ r h. added-place r) (λ r h. map-refused run periods weights map r after h)
-      (λ n place t. (said-some (map-renders run periods weights map) n place t, right-counted (length periods) n place (every-said (RightPlace (length periods)) (mapTable run periods weights map) (map-placed run periods weights map) n place t)))
+      by-table e (λ a. a .refusal) saysMap added-field (λ a. a .place) (λ r h. added-place r) (λ r h. map-refused run periods weights phases map r after h)
+      (λ n place t. (said-some (map-renders run periods weights phases map) n place t, right-counted (length periods) n place (every-said (RightPlace (length periods)) (mapTable run periods weights phases map) (map-placed run periods weights phases map) n place t)))
 
   pub exported-map-keeps : a .refusal ≢ 0 → after ≡ map
-  exported-map-keeps = kept e (λ a. a .refusal) saysMap added-field (λ r h. map-keeps run periods weights map r after h)
+  exported-map-keeps = kept e (λ a. a .refusal) saysMap added-field (λ r h. map-keeps run periods weights phases map r after h)
 
 -- `zenithgong_list_stretches`
 module _ (run : Run) (map : List ℕ) (threshold : ℕ) (guard : Guard) (room : List ℕ) {after : List ℕ} {a : BlankingReply} (e : Exported (λ r. BlankingPromise run map threshold guard room r after) tellBlanking a) where
@@ -322,7 +322,7 @@ module _ (text : List ℕ) {a : TextReply} (e : Exported (TextPromise text) tell
       by-table e (λ a. a .run .refusal) (λ input. saysText (input .answer)) (λ input. answer-field (input .answer)) (λ a. a .place) (λ input p. answer-place (input .answer)) (text-refused text)
       (λ n place t. (text-some n place t, right-counted _ n place (says-placed text (h .content) (h .reads) n place t)))
 
-  pub exported-text-alone : a .run .refusal ≢ 0 → a ≡ record { run = record { refusal = a .run .refusal; window = 0; interval = 0; first = 0; last = 0 }; place = a .place; count = 0; periods = zeros mostSources; weights = zeros mostSources }
+  pub exported-text-alone : a .run .refusal ≢ 0 → a ≡ record { run = record { refusal = a .run .refusal; window = 0; interval = 0; first = 0; last = 0 }; place = a .place; count = 0; periods = zeros mostSources; weights = zeros mostSources; phases = zeros mostSources }
   exported-text-alone some =
       let (reason, place, is) = alone e (λ a. a .run .refusal) (λ input. saysText (input .answer)) (λ input. answer-field (input .answer)) refusal only some in
       rw is refl

@@ -21,7 +21,7 @@ use Rattle.scope.specs.Table.{Row, _given_, Says, runTable}
 use Rattle.scope.proofs.Judged as Judged
 use Rattle.scope.proofs.Rendered.{Every, every-append, every-said}
 use Rattle.sources.specs.Entry.{Entry, entriesOf}
-use Rattle.sources.specs.Table.{sourcesTable}
+use Rattle.sources.specs.Table.{sourcesTable, sourceListsTable}
 use Rattle.sources.proofs.Entries.{entries-few}
 use Rattle.vectors.specs.declared.Steps.{Steps}
 use Rattle.vectors.specs.Promise.{saysVectors, VectorsPromise}
@@ -74,10 +74,10 @@ pub vectors-without : (p r I : ℕ) → Every Without (vectorsTable p r I)
 vectors-without p r I = (refl, (refl, (refl, (refl, tt))))
 
 pub first-hit-without : (run : Run) (source : Source) (start : RunCell) → Every Without (firstHitTable run source start)
-first-hit-without run source start = (refl, (refl, (refl, (refl, (refl, (refl, tt))))))
+first-hit-without run source start = (refl, (refl, (refl, (refl, (refl, (refl, (refl, tt)))))))
 
 pub listing-without : (run : Run) (source : Source) (start : RunCell) (room : List ℕ) → Every Without (listingTable run source start room)
-listing-without run source start room = (refl, (refl, (refl, (refl, (refl, (refl, (refl, tt)))))))
+listing-without run source start room = (refl, (refl, (refl, (refl, (refl, (refl, (refl, (refl, tt))))))))
 
 pub blanking-without : (run : Run) (map : List ℕ) (threshold : ℕ) (guard : Guard) (room : List ℕ) → Every Without (blankingTable run map threshold guard room)
 blanking-without run map threshold guard room = (refl, (refl, (refl, (refl, (refl, (refl, (refl, (refl, tt))))))))
@@ -128,46 +128,50 @@ module _ (file map : List ℕ) (answer : Loaded) (after : List ℕ) (h : Reading
 
 -- ---- calls with a list of sources
 
--- a row that is neither 4 nor 7
-other : (count n : ℕ) → n ≢ 4 → n ≢ 7 → RightPlace count n Nowhere
-other count n a b = (a, b)
+-- 4, 7 and 22 concern a source, and no other number below 22 does
+row : (count n : ℕ) → n < 22 → n ≢ 4 → n ≢ 7 → RightPlace count n Nowhere
+row count n low a b (inl (inl e)) = a e
+row count n low a b (inl (inr e)) = b e
+row count n low a b (inr e) = omega arith
 
 run-placed : (count : ℕ) (run : Run) → Every (RightPlace count) (runTable run)
-run-placed count run =
-    let row : (n : ℕ) → n ≢ 4 → n ≢ 7 → RightPlace count n Nowhere = other count in
-    (row 1 (λ e. omega arith) (λ e. omega arith), (row 17 (λ e. omega arith) (λ e. omega arith), (row 18 (λ e. omega arith) (λ e. omega arith), (row 3 (λ e. omega arith) (λ e. omega arith), tt))))
+run-placed count run = (
+  row count 1 (omega arith) (λ e. omega arith) (λ e. omega arith),
+  (row count 17 (omega arith) (λ e. omega arith) (λ e. omega arith), (row count 18 (omega arith) (λ e. omega arith) (λ e. omega arith), (row count 3 (omega arith) (λ e. omega arith) (λ e. omega arith), tt))),
+)
 
 -- the sources, the first of them at place k
 sources-placed : (count k : ℕ) (entries : List Entry) → 1 ≤ k → k + length entries ≤ suc count → Every (RightPlace count) (sourcesTable k entries)
 sources-placed count k [] low high = tt
 sources-placed count k (entry ∷ entries) low high =
     let inside : k ≤ count = omega arith in
-    ((inl refl, low, inside), ((inr refl, low, inside), sources-placed count (suc k) entries (omega arith) (omega arith)))
+    ((inl (inl refl), low, inside), ((inl (inr refl), low, inside), ((inr refl, low, inside), sources-placed count (suc k) entries (omega arith) (omega arith))))
 
-pub map-placed : (run : Run) (periods weights map : List ℕ) → Every (RightPlace (length periods)) (mapTable run periods weights map)
-map-placed run periods weights map =
+pub map-placed : (run : Run) (periods weights phases map : List ℕ) → Every (RightPlace (length periods)) (mapTable run periods weights phases map)
+map-placed run periods weights phases map =
     let count = length periods in
-    let entries = entriesOf periods weights in
+    let entries = entriesOf periods weights phases in
     let room = 9 given (length map ≢ cellsOf run) ∷ [] in
-    let lists = 10 given (length periods ≢ length weights) ∷ (sourcesTable 1 entries ++ room) in
-    every-append (RightPlace count) (runTable run) lists (run-placed count run)
-    (other count 10 (λ e. omega arith) (λ e. omega arith), every-append (RightPlace count) (sourcesTable 1 entries) room (sources-placed count 1 entries (omega arith) (omega (arith, entries-few periods weights))) (other count 9 (λ e. omega arith) (λ e. omega arith), tt))
+    let lists = sourceListsTable periods weights phases in
+    let sources = sources-placed count 1 entries (omega arith) (omega (arith, entries-few periods weights phases)) in
+    every-append (RightPlace count) (runTable run) (lists ++ room) (run-placed count run)
+    (every-append (RightPlace count) lists room (row count 10 (omega arith) (λ e. omega arith) (λ e. omega arith), sources) (row count 9 (omega arith) (λ e. omega arith) (λ e. omega arith), tt))
 
 text-placed : (content : Content) → Every (RightPlace (length (content .entries))) (textTable content)
 text-placed content =
     let count = length (content .entries) in
     let many = 12 given ((mostSources < count) ⊎ (mostCells < cellsOf (content .run))) ∷ sourcesTable 1 (content .entries) in
     every-append (RightPlace count) (runTable (content .run)) many (run-placed count (content .run))
-    (other count 12 (λ e. omega arith) (λ e. omega arith), sources-placed count 1 (content .entries) (omega arith) (omega arith))
+    (row count 12 (omega arith) (λ e. omega arith) (λ e. omega arith), sources-placed count 1 (content .entries) (omega arith) (omega arith))
 
--- A refusal of the map call for 4 or 7 has a place between 1 and the length of the list of periods, and no other refusal has one.
-module _ (run : Run) (periods weights map : List ℕ) (answer : Added) (after : List ℕ) (h : MapPromise run periods weights map answer after) where
+-- A refusal of the map call for 4, 7 or 22 has a place between 1 and the length of the list of periods, and no other refusal has one.
+module _ (run : Run) (periods weights phases map : List ℕ) (answer : Added) (after : List ℕ) (h : MapPromise run periods weights phases map answer after) where
   pub map-place : (n : ℕ) (place : Place) → saysMap answer ≡ refused n place → RightPlace (length periods) n place
-  map-place n place e = every-said (RightPlace (length periods)) (mapTable run periods weights map) (map-placed run periods weights map) n place (map-refused run periods weights map answer after h n place .0 e)
+  map-place n place e = every-said (RightPlace (length periods)) (mapTable run periods weights phases map) (map-placed run periods weights phases map) n place (map-refused run periods weights phases map answer after h n place .0 e)
 
 -- what the table of a text says
 pub says-placed : (text : List ℕ) (o : Option Content) → Reads text o → (n : ℕ) (place : Place) → SaysOfText text n place → RightPlace (srcCount o) n place
-says-placed text o r n place (inl s) = every-said (RightPlace (srcCount o)) (11 given Reads text none ∷ []) (other (srcCount o) 11 (λ e. omega arith) (λ e. omega arith), tt) n place s
+says-placed text o r n place (inl s) = every-said (RightPlace (srcCount o)) (11 given Reads text none ∷ []) (row (srcCount o) 11 (omega arith) (λ e. omega arith) (λ e. omega arith), tt) n place s
 says-placed text none r n place (inr s) = absurd (r (s .0) (s .1))
 says-placed text (some content) r n place (inr s) =
     every-said (RightPlace (length (content .entries))) (textTable content) (text-placed content) n place (rw (spells-unique (s .1) r) at (s .2))

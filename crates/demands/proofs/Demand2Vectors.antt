@@ -1,6 +1,6 @@
 -- Demand 2: "For each period, remainder below it and window no wider than it, the step vectors are those of Franke and
 -- Kleinjung's first proposition, or the single vector where no such pair exists." Assumes nothing.
-use Prim.Native.Nat.{ℕ, _/_, _%_, _≤_, _<_, _∣_}
+use Prim.Native.Nat.{ℕ, _*_, _/_, _%_, _≤_, _<_, _∣_}
 use native.Mathlib.Omega.{arith}
 use mathlib.Core.Path.{_≡_, ap, _∙_}
 use mathlib.Core.Logic.{_↔_, Iff·trans}
@@ -84,24 +84,31 @@ pair-is-basis p r I h = Proposition.pair-is-basis h
 pub second-half : (p r I : ℕ) {left right : Vector} → IsPair p r I left right → (v : Vector) → InLattice p r v → negℤ (pos I) <ℤ v .offset → v .offset <ℤ pos I → Sum left right v
 second-half p r I h = Proposition.second-half h
 
--- "the only hits in the window are at offset 0, on multiples of p/g", where the single vector is the reply.
+-- "the only hits in the window are at offset 0, on multiples of p/g", where the single vector is the reply: of a source at phase 0. (With a
+-- phase: Phases.)
 pub only-zero : (p r I g : ℕ) → ValidQuestion p r I → IsGcd g r p → I ≤ g → (v : Vector) → negℤ (pos (I / 2)) ≤ℤ v .offset → v .offset <ℤ pos (I / 2) → InLattice p r v ↔ ((v .offset ≡ pos 0) × (p / g ∣ v .line))
 only-zero p r I g a is wide = Proposition.only-zero (omega arith) is wide
 
-whole-lattice : (run : Run) (source : Source) (i : ℤ) (j : ℕ) → Hits run source i j ↔ InLattice (source .period) (run .interval) (record { offset = i; line = j })
+whole-lattice : (run : Run) (source : Source) (i : ℤ) (j : ℕ) → Hits run source i j ↔ InLattice (source .period) (run .interval) (record { offset = i +ℤ pos (source .phase); line = j })
 unfolding Hits InLattice instant
-whole-lattice run source i j = (λ h. h, λ h. h)
+whole-lattice run source i j =
+    let t = pos (run .interval * j) in
+    let s = pos (source .phase) in
+    let same : (t -ℤ i) -ℤ s ≡ t -ℤ (i +ℤ s) = omega (arith, parts, sum t (negℤ i), neg-up i, neg-dn i, sum (t -ℤ i) (negℤ s), neg-up s, neg-dn s, sum i s, neg-up (i +ℤ s), neg-dn (i +ℤ s), sum t (negℤ (i +ℤ s))) in
+    rw same (λ h. h, λ h. h)
 
--- "With r = T mod p this is i ≡ r·j (mod p)": a source hits an offset of a line exactly if these lie in the lattice of p and T mod p.
-pub hits-lattice : (run : Run) (source : Source) (i : ℤ) (j : ℕ) → Hits run source i j ↔ InLattice (source .period) (run .interval % source .period) (record { offset = i; line = j })
+-- "With r = T mod p this is i ≡ r·j (mod p)", with the phase i + s ≡ r·j: a source hits an offset of a line exactly if the offset, moved
+-- by the phase, lies with the line in the lattice of p and T mod p.
+pub hits-lattice : (run : Run) (source : Source) (i : ℤ) (j : ℕ) → Hits run source i j ↔ InLattice (source .period) (run .interval % source .period) (record { offset = i +ℤ pos (source .phase); line = j })
 hits-lattice run source i j =
     let p = source .period in
     let T = run .interval in
-    let v : Vector = record { offset = i; line = j } in
-    let at : i +ℤ pos (dn i) ≡ pos (up i) = omega (arith, parts, sum i (pos (dn i))) in
-    let whole = Proposition.lies-go p T v (dn i) (up i) at in
-    let rest = Proposition.lies-go p (T % p) v (dn i) (up i) at in
-    Iff·trans (whole-lattice run source i j) (Iff·trans whole (Iff·trans (go-mod p T (dn i) j (up i)) (rest .1, rest .0)))
+    let moved = i +ℤ pos (source .phase) in
+    let v : Vector = record { offset = moved; line = j } in
+    let at : moved +ℤ pos (dn moved) ≡ pos (up moved) = omega (arith, parts, sum moved (pos (dn moved))) in
+    let whole = Proposition.lies-go p T v (dn moved) (up moved) at in
+    let rest = Proposition.lies-go p (T % p) v (dn moved) (up moved) at in
+    Iff·trans (whole-lattice run source i j) (Iff·trans whole (Iff·trans (go-mod p T (dn moved) j (up moved)) (rest .1, rest .0)))
 
 -- "For p ≥ I there is at most one hit on a line."
 pub one-on-line : (run : Run) (source : Source) → ValidRun run → run .window ≤ source .period → (x y : ℕ) → HitsCell run source x → HitsCell run source y → lineOf run x ≡ lineOf run y → x ≡ y

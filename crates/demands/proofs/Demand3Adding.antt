@@ -23,8 +23,8 @@ use Rattle.map.specs.declared.Added.{Added}
 use Rattle.map.specs.declared.Added.the-variants.{Done}
 use Rattle.map.specs.Sum.{capped}
 use Rattle.map.specs.Promise.{mapTests, weightAt, added, MapPromiseAt}
-use Rattle.sources.specs.Lists.{periodsOf, weightsOf, ValidEntries}
-use Rattle.sources.proofs.Entries.{valid-entries-pass, entries-of, periods-length, weights-length}
+use Rattle.sources.specs.Lists.{periodsOf, weightsOf, phasesOf, ValidEntries}
+use Rattle.sources.proofs.Entries.{valid-entries-pass, valid-lists, entries-of, one-length}
 use Rattle.map.proofs.Entries.{weight-shift, added-append, added-none, added-same, added-length, added-within, added-getD}
 use Rattle.map.proofs.Unique.{granted-call, stores-added, says-map-injective}
 use Rattle.demands.specs.FirstHit.{HitsCell}
@@ -77,17 +77,15 @@ module _ (c : ℕ) where
   -- ---- a call's lists
 
   -- nothing is wrong with a call of entries within the limits on a map of the exact length
-  call-passes : {block : Run} (entries : List Entry) (map : List ℕ) → ValidRun block → ValidEntries c entries → length map ≡ cellsOf block → Passes (mapTests c block (periodsOf entries) (weightsOf entries) map)
+  call-passes : {block : Run} (entries : List Entry) (map : List ℕ) → ValidRun block → ValidEntries c entries → length map ≡ cellsOf block → Passes (mapTests c block (periodsOf entries) (weightsOf entries) (phasesOf entries) map)
   unfolding mapTests
   call-passes entries map v w e =
       both
-      (both
-      (both (valid-run-passes v) (sound (ap not (eq-eqb _ _ ((periods-length entries ∙ sym (weights-length entries)))))))
-      (rw (entries-of entries) (valid-entries-pass c 1 entries w)))
+      (both (valid-run-passes v) (valid-lists c (periodsOf entries) (weightsOf entries) (phasesOf entries) .1 (one-length entries, rw (entries-of entries) (valid-entries-pass c 1 entries w))))
       (sound (ap not (eq-eqb _ _ e)))
 
   -- such a call, if it keeps its promise, is not refused and adds its entries
-  call-adds : {block : Run} (entries : List Entry) {map : List ℕ} {answer : Added} {after : List ℕ} → ValidRun block → ValidEntries c entries → length map ≡ cellsOf block → MapPromiseAt c block (periodsOf entries) (weightsOf entries) map answer after → (answer ≡ Done) × (after ≡ added c block entries map)
+  call-adds : {block : Run} (entries : List Entry) {map : List ℕ} {answer : Added} {after : List ℕ} → ValidRun block → ValidEntries c entries → length map ≡ cellsOf block → MapPromiseAt c block (periodsOf entries) (weightsOf entries) (phasesOf entries) map answer after → (answer ≡ Done) × (after ≡ added c block entries map)
   call-adds {block} entries {map} {answer} {after} v w e m =
       let got = stores-added (call-passes entries map v w e) m in
       (says-map-injective answer Done (got .0), got .1 ∙ ap (λ (l : List Entry). added c block l map) (entries-of entries))

@@ -1,4 +1,4 @@
--- The demands of document 00, over the promises alone: the files Demand*, NoSecondReply, SomeReply, LineZero and Texts have the
+-- The demands of document 00, over the promises alone: the files Demand*, NoSecondReply, SomeReply, LineZero, Phases and Texts have the
 -- statements, the others what they rest on.
 pub mod Demand1
 pub mod Demand1Places
@@ -16,6 +16,7 @@ pub mod Cuts
 pub mod CutHits
 pub mod Demand3Listing
 pub mod LineZero
+pub mod Phases
 pub mod BlankingLists
 pub mod CutMaps
 pub mod Demand3Adding

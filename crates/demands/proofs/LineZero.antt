@@ -7,21 +7,18 @@ use native.Mathlib.Omega.{arith}
 use mathlib.Core.Path.{_≡_, ap}
 use mathlib.Core.Logic.{_↔_, Iff·trans}
 use mathlib.Core.List.{List, List·Memᴰ}
-use lib.IntN.{ℤ, pos, negℤ, natAbs, _-ℤ_}
-use Rattle.lattice.specs.Gcd.{IsGcd}
+use lib.IntN.{ℤ, pos, negℤ, natAbs, _+ℤ_, _-ℤ_}
 use Rattle.signed.proofs.Parts.{parts, apart, sum, neg-up, neg-dn, abs-parts, same-parts}
 use Rattle.scope.specs.declared.Run.{Run}
 use Rattle.scope.specs.declared.Source.{Source}
 use Rattle.scope.specs.declared.RunCell.{RunCell}
 use Rattle.scope.specs.declared.BlockCell.{BlockCell}
-use Rattle.scope.specs.Run.{ValidRun, ValidSource, InRun, runWith, lineOf, offsetOf, shiftOf, toRun}
+use Rattle.scope.specs.Run.{ValidRun, InRun, runWith, lineOf, offsetOf, shiftOf, toRun}
 use Rattle.scope.specs.Hit.{Hits, instant}
 use Rattle.scope.specs.Table.{Silent, runTable}
 use Rattle.hits.specs.Proposition.{InWindow}
-use Rattle.vectors.proofs.Proposition as Proposition
 use Rattle.demands.specs.Cut.{Cut}
 use Rattle.demands.specs.Listing.{Listings, joined}
-use Rattle.demands.proofs.Demand2Vectors.{hits-lattice}
 use Rattle.demands.proofs.Demand3Listing.{joined-offsets}
 
 -- "a first line of 0 is accepted everywhere": where the rows of a run, which stand in the table of every call with one, say nothing,
@@ -29,50 +26,44 @@ use Rattle.demands.proofs.Demand3Listing.{joined-offsets}
 pub zero-silent : (run : Run) → Silent (runTable run) → Silent (runTable (runWith (run .window) (run .interval) 0 (run .last)))
 zero-silent run s = (s .0, (λ before. omega arith, (s .1 .1 .0, (s .1 .1 .1 .0, tt))))
 
--- On line 0 a source hits the offsets that its period divides.
-pub hits-on-zero : (run : Run) (source : Source) (i : ℤ) → Hits run source i 0 ↔ (source .period ∣ natAbs i)
+-- On line 0 a source hits the offsets i for which its period divides i + s, s being its phase.
+pub hits-on-zero : (run : Run) (source : Source) (i : ℤ) → Hits run source i 0 ↔ (source .period ∣ natAbs (i +ℤ pos (source .phase)))
 unfolding Hits instant
 hits-on-zero run source i =
     let start = pos (run .interval * 0) in
-    let size : natAbs (start -ℤ i) ≡ natAbs i = omega (arith, abs-parts (start -ℤ i), abs-parts i, apart (start -ℤ i), apart i, sum start (negℤ i), neg-up i, neg-dn i) in
+    let s = pos (source .phase) in
+    let size : natAbs ((start -ℤ i) -ℤ s) ≡ natAbs (i +ℤ s) = omega (arith, abs-parts ((start -ℤ i) -ℤ s), abs-parts (i +ℤ s), apart ((start -ℤ i) -ℤ s), apart (i +ℤ s), sum start (negℤ i), neg-up i, neg-dn i, sum (start -ℤ i) (negℤ s), neg-up s, neg-dn s, sum i s) in
     rw size (λ h. h, λ h. h)
 
--- "every source of today hits offset 0 there".
-pub zero-hit : (run : Run) (source : Source) → Hits run source (pos 0) 0
-zero-hit run source = hits-on-zero run source (pos 0) .1 (dvd-zero (source .period))
+-- "every source of today hits offset 0 there": at phase 0, which was every source's then.
+pub zero-hit : (run : Run) (source : Source) → source .phase ≡ 0 → Hits run source (pos 0) 0
+zero-hit run source unphased = hits-on-zero run source (pos 0) .1 (rw unphased (dvd-zero (source .period)))
 
--- "For p ≥ I there is at most one hit on a line": on line 0 it is the one at offset 0.
-pub zero-alone : (run : Run) (source : Source) → run .window ≤ source .period → (i : ℤ) → InWindow run i → Hits run source i 0 ↔ (i ≡ pos 0)
-zero-alone run source wide i inside = (
+-- "For p ≥ I there is at most one hit on a line": on line 0 at phase 0 it is the one at offset 0.
+pub zero-alone : (run : Run) (source : Source) → source .phase ≡ 0 → run .window ≤ source .period → (i : ℤ) → InWindow run i → Hits run source i 0 ↔ (i ≡ pos 0)
+zero-alone run source unphased wide i inside = (
   λ h. same-parts i (pos 0) (omega (arith, near h, abs-parts i)),
-  λ e. rw e (zero-hit run source),
+  λ e. rw e (zero-hit run source unphased),
 )
   where
+    same : natAbs (i +ℤ pos (source .phase)) ≡ natAbs i
+    same = omega (arith, unphased, abs-parts (i +ℤ pos (source .phase)), abs-parts i, apart (i +ℤ pos (source .phase)), apart i, sum i (pos (source .phase)))
+
     near : Hits run source i 0 → natAbs i ≡ 0
     near h =
         let half : natAbs i < source .period = omega (arith, parts, abs-parts i, apart i, neg-up (pos (run .window / 2)), neg-dn (pos (run .window / 2))) in
-        let none : 0 < natAbs i → ⊥ = λ some. omega (arith, le-of-dvd some (hits-on-zero run source i .0 h)) in
+        let none : 0 < natAbs i → ⊥ = λ some. omega (arith, le-of-dvd some (rw same at (hits-on-zero run source i .0 h))) in
         omega (arith, none)
 
--- "the only hits in the window are at offset 0, on multiples of p/g", where no pair exists. Line 0 is one of them.
-pub single-hits : (run : Run) (source : Source) → ValidSource source → (g : ℕ) → IsGcd g (run .interval % source .period) (source .period) → run .window ≤ g → (i : ℤ) (j : ℕ) → InWindow run i → Hits run source i j ↔ ((i ≡ pos 0) × (source .period / g ∣ j))
-single-hits run source w g is wide i j inside =
-    Iff·trans (hits-lattice run source i j) (Proposition.only-zero (omega (arith, w .ticks)) is wide (record { offset = i; line = j }) (inside .left) (inside .right))
-
--- Demand 3 at line 0: the lists of every cut of a run that begins there, joined, have the cell at offset 0 of line 0.
-pub zero-listed : (run : Run) (source : Source) (blocks : List Run) → ValidRun run → run .first ≡ 0 → Cut run blocks → (lists : Listings source blocks) → (y : RunCell) × List·Memᴰ y (joined run source blocks lists) × (offsetOf run (y .0) ≡ pos 0) × (lineOf run (y .0) ≡ 0)
-zero-listed run source blocks v zero cut lists = joined-offsets run source blocks v cut lists (pos 0) 0 inside .0 (zero-hit run source)
+-- Demand 3 at line 0: the lists of every cut of a run that begins there, joined, have the cell of line 0 at an offset i of the window
+-- exactly if the period divides i + s.
+pub zero-listed : (run : Run) (source : Source) (blocks : List Run) → ValidRun run → run .first ≡ 0 → Cut run blocks → (lists : Listings source blocks) → (i : ℤ) → InWindow run i → (source .period ∣ natAbs (i +ℤ pos (source .phase))) ↔ ((y : RunCell) × List·Memᴰ y (joined run source blocks lists) × (offsetOf run (y .0) ≡ i) × (lineOf run (y .0) ≡ 0))
+zero-listed run source blocks v zero cut lists i inside =
+    let rule = hits-on-zero run source i in
+    Iff·trans (rule .1, rule .0) (joined-offsets run source blocks v cut lists i 0 in-run)
   where
-    half : ℕ
-    half = run .window / 2
-
-    inside : InRun run (pos 0) 0
-    inside = record {
-      left = omega (arith, parts, neg-up (pos half), neg-dn (pos half));
-      right = omega (arith, parts, v .narrow);
-      from = omega (arith, zero);
-      to = omega arith;
-    }
+    in-run : InRun run i 0
+    in-run = record { left = inside .left; right = inside .right; from = omega (arith, zero); to = omega arith }
 
 -- A block that begins with its run, at line 0 or elsewhere, is not shifted: its cells have the run's numbers.
 pub first-block-stays : (run block : Run) → block .first ≡ run .first → (x : BlockCell) → toRun run block x .0 ≡ x .0

@@ -46,8 +46,8 @@ pub listing-unique : (run : Run) (source : Source) (start : RunCell) (room : Lis
 listing-unique run source start room a b after after′ = Hits.listing-unique
 
 -- The map call: one reply, and one map after it.
-pub map-unique : (run : Run) (periods weights map : List ℕ) (a b : Added) (after after′ : List ℕ) → MapPromise run periods weights map a after → MapPromise run periods weights map b after′ → (a ≡ b) × (after ≡ after′)
-map-unique run periods weights map a b after after′ = Map.map-unique
+pub map-unique : (run : Run) (periods weights phases map : List ℕ) (a b : Added) (after after′ : List ℕ) → MapPromise run periods weights phases map a after → MapPromise run periods weights phases map b after′ → (a ≡ b) × (after ≡ after′)
+map-unique run periods weights phases map a b after after′ = Map.map-unique
 
 -- The blanking call: one reply, and one room after it.
 pub blanking-unique : (run : Run) (map : List ℕ) (threshold : ℕ) (guard : Guard) (room : List ℕ) (a b : Blanking) (after after′ : List ℕ) → BlankingPromise run map threshold guard room a after → BlankingPromise run map threshold guard room b after′ → (a ≡ b) × (after ≡ after′)

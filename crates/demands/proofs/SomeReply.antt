@@ -48,7 +48,7 @@ listing-exists = Hits.listing-exists
 -- ---- map, blanking list, saving and reading: the call is refused, or it is done
 
 -- Some reply and some map after it fit the map call.
-pub map-exists : (run : Run) (periods weights map : List ℕ) → (answer : Added) × (after : List ℕ) × MapPromise run periods weights map answer after
+pub map-exists : (run : Run) (periods weights phases map : List ℕ) → (answer : Added) × (after : List ℕ) × MapPromise run periods weights phases map answer after
 map-exists = Map.map-exists ceiling
 
 -- Some reply and some room after it fit the blanking call.

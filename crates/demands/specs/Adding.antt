@@ -16,7 +16,7 @@ use Rattle.map.specs.declared.Added.{Added}
 use Rattle.map.specs.declared.Added.the-variants.{Done}
 use Rattle.map.specs.Sum.{capped}
 use Rattle.map.specs.Promise.{weightAt, added, MapPromiseAt}
-use Rattle.sources.specs.Lists.{periodsOf, weightsOf, ValidEntries}
+use Rattle.sources.specs.Lists.{periodsOf, weightsOf, phasesOf, ValidEntries}
 use Rattle.demands.specs.Cut.{Cut}
 
 -- What the blocks' maps hold, joined in line order.
@@ -43,7 +43,7 @@ abbrev pub Keep : ℕ → Run → List Run → List (List ℕ) → List Call →
 Keep c run blocks maps [] = Unit {0}
 Keep c run blocks maps (call ∷ calls) =
     (call .block < length blocks) ×
-    MapPromiseAt c (getD blocks (call .block) run) (periodsOf (call .entries)) (weightsOf (call .entries)) (getD maps (call .block) []) (call .answer) (call .after) ×
+    MapPromiseAt c (getD blocks (call .block) run) (periodsOf (call .entries)) (weightsOf (call .entries)) (phasesOf (call .entries)) (getD maps (call .block) []) (call .answer) (call .after) ×
     Keep c run blocks (set maps (call .block) (call .after)) calls
 
 -- What the calls leave in the blocks' maps.

@@ -6,7 +6,7 @@ use Rattle.scope.specs.declared.Source.{Source}
 use Rattle.scope.specs.Run.{cellsOf, lineOf, offsetOf}
 use Rattle.scope.specs.Hit.{Hits}
 
--- "source p hits cell (i, j) exactly when p divides T·j - i", of the cell with number x.
+-- "It hits (i, j) exactly when p divides T·j - i - s" (E5), of the cell with number x.
 abbrev pub HitsCell : Run → Source → ℕ → Type 0
 HitsCell run source x = Hits run source (offsetOf run x) (lineOf run x)
 

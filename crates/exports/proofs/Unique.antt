@@ -46,7 +46,7 @@ pub exported-listing-unique : {run : Run} {source : Source} {start : RunCell} {r
 exported-listing-unique x y = (answer-unique (λ r s p q. listing-unique p q .0) x y, listing-unique (x .promised) (y .promised) .1)
 
 -- `zenithgong_add_to_map`: one answer, and one map after it.
-pub exported-map-unique : {run : Run} {periods weights map after after′ : List ℕ} {a b : AddedReply} → Exported (λ r. MapPromise run periods weights map r after) tellAdded a → Exported (λ r. MapPromise run periods weights map r after′) tellAdded b → (a ≡ b) × (after ≡ after′)
+pub exported-map-unique : {run : Run} {periods weights phases map after after′ : List ℕ} {a b : AddedReply} → Exported (λ r. MapPromise run periods weights phases map r after) tellAdded a → Exported (λ r. MapPromise run periods weights phases map r after′) tellAdded b → (a ≡ b) × (after ≡ after′)
 exported-map-unique x y = (answer-unique (λ r s p q. map-unique p q .0) x y, map-unique (x .promised) (y .promised) .1)
 
 -- `zenithgong_list_stretches`: one answer, and one room after it.

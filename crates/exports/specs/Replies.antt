@@ -85,4 +85,4 @@ tellTextPlace (Refused·text reason place) = tellPlace place
 
 -- Reading a text: the run, the place and the sources.
 abbrev pub tellText : Input → TextReply
-tellText input = record { run = tellAnswer (input .answer); place = tellTextPlace (input .answer); count = input .count; periods = input .periods; weights = input .weights }
+tellText input = record { run = tellAnswer (input .answer); place = tellTextPlace (input .answer); count = input .count; periods = input .periods; weights = input .weights; phases = input .phases }

@@ -95,10 +95,11 @@ pub struct TextReply {
     pub run: RunReply,
     // The place of the source at fault, counted from 1; 0 where the refusal concerns none.
     pub place: u64,
-    // How many sources there are; their periods and weights stand first, zeros after them.
+    // How many sources there are; their periods, weights and phases stand first, zeros after them.
     pub count: usize,
     pub periods: [u32; 64],
     pub weights: [u32; 64],
+    pub phases: [u32; 64],
 }
 
 // A place in a number: 0 where there is none.
@@ -282,12 +283,14 @@ fn tell_text(reply: Input) -> TextReply
     let place = tell_text_place(answer);
     let periods = reply.periods;
     let weights = reply.weights;
+    let phases = reply.phases;
     TextReply {
         run,
         place,
         count: reply.count,
         periods,
         weights,
+        phases,
     }
 }
 
@@ -319,12 +322,13 @@ pub extern "C" fn zenithgong_first_hit(
     first: u32,
     last: u32,
     period: u32,
+    phase: u32,
     start: u64,
 ) -> FirstHitReply
-    ensures { λ r. ⌜ Exported (FirstHitPromise (runWith window interval first last) (record { period = period }) (record { 0 = start })) tellFirst r ⌝ }
+    ensures { λ r. ⌜ Exported (FirstHitPromise (runWith window interval first last) (record { period = period; phase = phase }) (record { 0 = start })) tellFirst r ⌝ }
 {
     let run = run_with(window, interval, first, last);
-    tell_first(hits::first_hit(run, Source { period }, RunCell(start)))
+    tell_first(hits::first_hit(run, Source { period, phase }, RunCell(start)))
 }
 
 // Public operation: `hits::list_hits` of the run with these four numbers, its reply in numbers.
@@ -335,13 +339,14 @@ pub extern "C" fn zenithgong_list_hits(
     first: u32,
     last: u32,
     period: u32,
+    phase: u32,
     start: u64,
     room: &mut [u64],
 ) -> ListingReply
-    ensures { λ r. ⌜ Exported (λ reply. ListingPromise (runWith window interval first last) (record { period = period }) (record { 0 = start }) (now (room .entry)) reply (now (room .exit))) tellListing r ⌝ }
+    ensures { λ r. ⌜ Exported (λ reply. ListingPromise (runWith window interval first last) (record { period = period; phase = phase }) (record { 0 = start }) (now (room .entry)) reply (now (room .exit))) tellListing r ⌝ }
 {
     let run = run_with(window, interval, first, last);
-    tell_listing(hits::list_hits(run, Source { period }, RunCell(start), room))
+    tell_listing(hits::list_hits(run, Source { period, phase }, RunCell(start), room))
 }
 
 // Public operation: `map::add_to_map` for the run with these four numbers, its reply in numbers.
@@ -353,12 +358,13 @@ pub extern "C" fn zenithgong_add_to_map(
     last: u32,
     periods: &[u32],
     weights: &[u32],
+    phases: &[u32],
     map: &mut [u8],
 ) -> AddedReply
-    ensures { λ r. ⌜ Exported (λ reply. MapPromise (runWith window interval first last) (now (periods .entry)) (now (weights .entry)) (now (map .entry)) reply (now (map .exit))) tellAdded r ⌝ }
+    ensures { λ r. ⌜ Exported (λ reply. MapPromise (runWith window interval first last) (now (periods .entry)) (now (weights .entry)) (now (phases .entry)) (now (map .entry)) reply (now (map .exit))) tellAdded r ⌝ }
 {
     let run = run_with(window, interval, first, last);
-    tell_added(map::add_to_map(run, periods, weights, map))
+    tell_added(map::add_to_map(run, periods, weights, phases, map))
 }
 
 // Public operation: `blanking::list_stretches` for the run with these four numbers and the guard with these two offsets, its reply in

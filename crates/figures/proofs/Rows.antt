@@ -18,7 +18,7 @@ use Rattle.lattice.specs.Gcd.{IsGcd}
 use Rattle.scope.specs.declared.Run.{Run}
 use Rattle.scope.specs.Run.{runWith, cellsOf, cellOf}
 use Rattle.scope.specs.Hit.{hitsFrom}
-use Rattle.scope.specs.Refusal.{_when_, _andThen_, complaint, windowTests, lineTests, runTests, periodTests, sourceTests}
+use Rattle.scope.specs.Refusal.{_when_, _andThen_, complaint, windowTests, lineTests, runTests, sourceTests}
 use Rattle.scope.specs.declared.Reason.the-variants.{Room}
 use Rattle.scope.specs.declared.Place.the-variants.{Nowhere}
 use Rattle.scope.specs.Reply.{Said, refused, answered, reply, stored}
@@ -102,22 +102,22 @@ map-pos-same a b e = sym (back a) ∙ ap (map natAbs) e ∙ back b
 module _ (p r I first last : ℕ) (figure : List (ℤ × ℕ)) (cells : List ℕ)
     (window : complaint (windowTests I) ≡ none)
     (lines : complaint (lineTests first last) ≡ none)
-    (period : complaint (periodTests p) ≡ none)
+    (source : complaint (sourceTests (record { period = p; phase = 0 })) ≡ none)
     (some-cell : (T : ℕ) → leb (cellsOf (runWith I T first last)) 0 ≡ false)
-    (are : hitsFrom (runWith I r first last) (record { period = p }) 0 ≡ cells)
+    (are : hitsFrom (runWith I r first last) (record { period = p; phase = 0 }) 0 ≡ cells)
     (many : length cells ≡ length figure)
     (some : True (ltb 0 (length figure)))
     (at : (T : ℕ) → map pos cells ≡ map (λ hit. cellOf (runWith I T first last) (hit .0) (hit .1)) figure) where
   -- the hits of every interval with the remainder r, and room for them
   module _ (T : ℕ) (ticks : 1 ≤ T) (remainder : T % p ≡ r) (room : List ℕ) (e : length room ≡ length figure) where
-    granted : Passes (listingTests (runWith I T first last) (record { period = p }) (record { 0 = 0 }) room)
-    unfolding listingTests firstHitTests runTests sourceTests
+    granted : Passes (listingTests (runWith I T first last) (record { period = p; phase = 0 }) (record { 0 = 0 }) room)
+    unfolding listingTests firstHitTests runTests
     granted =
-        both (both (both (both (both (record { is = window }) (record { is = lines })) (sound (ne-eqb T 0 (λ z. omega arith)))) (record { is = period })) (sound (some-cell T)))
+        both (both (both (both (both (record { is = window }) (record { is = lines })) (sound (ne-eqb T 0 (λ z. omega arith)))) (record { is = source })) (sound (some-cell T)))
         (sound (ne-eqb (length room) 0 (λ z. omega (arith, ltb→lt 0 (length figure) some))))
 
-    hit : hitsFrom (runWith I T first last) (record { period = p }) 0 ≡ cells
-    hit = hits-remainder (runWith I T first last) (record { period = p }) r (sym (mod-mod T p) ∙ ap (λ n. n % p) remainder) 0 ∙ are
+    hit : hitsFrom (runWith I T first last) (record { period = p; phase = 0 }) 0 ≡ cells
+    hit = hits-remainder (runWith I T first last) (record { period = p; phase = 0 }) r (sym (mod-mod T p) ∙ ap (λ n. n % p) remainder) 0 ∙ are
 
     -- the room is just used up
     whole : written cells room ≡ cells
@@ -136,10 +136,10 @@ module _ (p r I first last : ℕ) (figure : List (ℤ × ℕ)) (cells : List ℕ
         next : first-of (drop (length room) cells) ≡ none
         next = rw (drop-of-length-le cells {i = length room} (omega (arith, e, many)))
 
-    said : reply (complaint (listingTests (runWith I T first last) (record { period = p }) (record { 0 = 0 }) room)) (listed (hitsFrom (runWith I T first last) (record { period = p }) 0) room) ≡ saysListing (Done (length figure))
+    said : reply (complaint (listingTests (runWith I T first last) (record { period = p; phase = 0 }) (record { 0 = 0 }) room)) (listed (hitsFrom (runWith I T first last) (record { period = p; phase = 0 }) 0) room) ≡ saysListing (Done (length figure))
     said = rw (granted .is, hit, counted)
 
-    held : stored (complaint (listingTests (runWith I T first last) (record { period = p }) (record { 0 = 0 }) room)) room (written (hitsFrom (runWith I T first last) (record { period = p }) 0) room) ≡ cells
+    held : stored (complaint (listingTests (runWith I T first last) (record { period = p; phase = 0 }) (record { 0 = 0 }) room)) room (written (hitsFrom (runWith I T first last) (record { period = p; phase = 0 }) 0) room) ≡ cells
     held = rw (granted .is, hit, whole)
 
   pub hits-row : Holds (hits p r I first last figure)
@@ -151,9 +151,9 @@ module _ (p r I first last : ℕ) (figure : List (ℤ × ℕ)) (cells : List ℕ
 -- ---- maps
 
 -- an outcome that fits is the only one
-pub map-row : (run : Run) (periods weights figure : List ℕ) → MapPromise run periods weights (replicate (length figure) 0) Done·map figure → Holds (mapped run periods weights figure)
-map-row run periods weights figure h answer after =
-    (λ k. map-unique k h, λ e. subst₂ (MapPromise run periods weights (replicate (length figure) 0)) (sym (e .0)) (sym (e .1)) h)
+pub map-row : (run : Run) (periods weights phases figure : List ℕ) → MapPromise run periods weights phases (replicate (length figure) 0) Done·map figure → Holds (mapped run periods weights phases figure)
+map-row run periods weights phases figure h answer after =
+    (λ k. map-unique k h, λ e. subst₂ (MapPromise run periods weights phases (replicate (length figure) 0)) (sym (e .0)) (sym (e .1)) h)
 
 -- ---- saved maps
 

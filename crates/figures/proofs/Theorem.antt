@@ -6,8 +6,8 @@ use mathlib.Core.Logic.{_⊎_, inl, inr}
 use mathlib.Core.List.{List, [], _∷_, List·Memᴰ, List·Memᴰ·not-nil, List·Memᴰ·cases-cons}
 use Rattle.scope.specs.Run.{linesOf, cellsOf, cellOf, lineOf, offsetOf}
 use Rattle.scope.specs.Hit.{instant, isHit, hitsAmong, hitsFrom}
-use Rattle.scope.specs.Refusal.{complaint, windowTests, lineTests, periodTests, weightTests, runTests}
-use Rattle.sources.specs.Entry.{entriesOf, entryTests, listTests}
+use Rattle.scope.specs.Refusal.{complaint, windowTests, lineTests, periodTests, weightTests, phaseTests, sourceTests, runTests}
+use Rattle.sources.specs.Entry.{entriesOf, entryTests, lengthTests, listTests, sourceListsTests}
 use Rattle.map.specs.Sum.{raised}
 use Rattle.map.specs.Promise.{mapTests, weightAt, added}
 use Rattle.vectors.specs.Promise.{vectorsTests}
@@ -24,7 +24,7 @@ All (figure ∷ figures) = Holds figure × All figures
 
 -- each row, by computing its conditions: the tests, the divisions, the list of hits, the cells of the map, the bytes of the file
 rows : All table
-unfolding vectorsTests mapTests runTests windowTests lineTests periodTests weightTests entryTests listTests entriesOf complaint hitsFrom hitsAmong added raised weightAt isHit instant lineOf offsetOf cellOf cellsOf linesOf fileLength fileBlocksFor bytesFor fileOf heading laterFileBlocks firstJoined fileBlockOf filled zeros four fourAt checkOf weighted
+unfolding vectorsTests mapTests runTests windowTests lineTests periodTests weightTests phaseTests sourceTests entryTests lengthTests listTests sourceListsTests entriesOf complaint hitsFrom hitsAmong added raised weightAt isHit instant lineOf offsetOf cellOf cellsOf linesOf fileLength fileBlocksFor bytesFor fileOf heading laterFileBlocks firstJoined fileBlockOf filled zeros four fourAt checkOf weighted
 rows = (
   vectors-row 7 3 4 _ (is-pair 7 3 4 _ _ _ _ refl refl tt tt tt tt tt tt tt refl),
   (
@@ -46,7 +46,7 @@ rows = (
                   (
                     vectors-row 2 1 2 _ (is-pair 2 1 2 _ _ _ _ refl refl tt tt tt tt tt tt tt refl),
                     (
-                      map-row example _ _ _ (record { says = refl; stores = refl }),
+                      map-row example _ _ _ _ (record { says = refl; stores = refl }),
                       (
                         saved-row example exampleMap _ _ _ refl refl refl refl refl refl,
                         tt,

@@ -1,5 +1,5 @@
--- Document 01, "Bench figures": the starred ones, and the refusal that stands beside one of them, as they stand there; and what
--- it is for a figure to hold.
+-- Document 01, "Bench figures": the starred ones, and the refusal that stands beside one of them, as they stand there, each source
+-- at phase 0 ("a line without it means phase 0", E5); and what it is for a figure to hold.
 use Prim.Native.Nat.{ℕ, _+_, _%_, _≤_}
 use mathlib.Core.Path.{_≡_}
 use mathlib.Core.List.{List, [], _∷_, map}
@@ -28,10 +28,10 @@ use Rattle.hits.specs.Promise.{ListingPromise}
 pub data Figure : Type 0 where
   -- "p, r, I: reply"
   vectors : (p r I : ℕ) → Said Values → Figure
-  -- "p, r, I .. Hits on lines 1-11 as offset, line": of a period, a remainder, a window, and the first and last line
+  -- "p, r, I .. Hits on lines 1-11 as offset, line": of a period, a remainder, a window, and the first and last line, at phase 0
   hits : (p r I first last : ℕ) → List (ℤ × ℕ) → Figure
-  -- "The map above": of a run, the periods and weights listed, and the cells of the map, which was clear before
-  mapped : Run → (periods weights cells : List ℕ) → Figure
+  -- "The map above": of a run, the periods, weights and phases listed, and the cells of the map, which was clear before
+  mapped : Run → (periods weights phases cells : List ℕ) → Figure
   -- "saved, it is 1,024 bytes with checks 294 and 22,327": of a run and its map, the length and the checks of the two blocks
   saved : Run → (cells : List ℕ) → (size first second : ℕ) → Figure
 
@@ -42,11 +42,11 @@ abbrev pub Holds : Figure → Type 0
 Holds (vectors p r I figure) = (steps : Steps) → VectorsPromise p r I steps ↔ (saysVectors steps ≡ figure)
 Holds (hits p r I first last figure) =
     (T : ℕ) → 1 ≤ T → T % p ≡ r → (room : List ℕ) → length room ≡ length figure → (reply : Listing) (after : List ℕ) →
-    ListingPromise (runWith I T first last) (record { period = p }) (record { 0 = 0 }) room reply after ↔
+    ListingPromise (runWith I T first last) (record { period = p; phase = 0 }) (record { 0 = 0 }) room reply after ↔
     ((reply ≡ Done (length figure)) × (map pos after ≡ map (λ hit. cellOf (runWith I T first last) (hit .0) (hit .1)) figure))
-Holds (mapped run periods weights figure) =
+Holds (mapped run periods weights phases figure) =
     (answer : Added) (after : List ℕ) →
-    MapPromise run periods weights (replicate (length figure) 0) answer after ↔ ((answer ≡ Done·map) × (after ≡ figure))
+    MapPromise run periods weights phases (replicate (length figure) 0) answer after ↔ ((answer ≡ Done·map) × (after ≡ figure))
 Holds (saved run cells size first second) =
     (room : List ℕ) →
     ((answer : Saved) (after : List ℕ) → SavingPromise run cells room answer after →
@@ -83,6 +83,6 @@ table =
     vectors 12 6 8 (answered (pair (minus 6) 1 (pos 6) 1)) ∷
     vectors 9 0 4 (answered (single (pos 0) 1)) ∷
     vectors 2 1 2 (answered (pair (minus 1) 1 (pos 1) 1)) ∷
-    mapped example (7 ∷ 3 ∷ []) (60 ∷ 200 ∷ []) exampleMap ∷
+    mapped example (7 ∷ 3 ∷ []) (60 ∷ 200 ∷ []) (0 ∷ 0 ∷ []) exampleMap ∷
     saved example exampleMap 1024 294 22327 ∷
     []

@@ -24,12 +24,12 @@ use Rattle.search.proofs.Cells.{Points, on-points, way, arrive}
 
 module _ {run : Run} (v : ValidRun run) (source : Source) where
   -- an offset of the window, by its distance from the left edge
-  record Far (i : ℤ) : Type 0 where
-    d : ℕ
-    is : i +ℤ pos (run .window / 2) ≡ pos d
-    below : d < run .window
+  pub record Far (i : ℤ) : Type 0 where
+    pub d : ℕ
+    pub is : i +ℤ pos (run .window / 2) ≡ pos d
+    pub below : d < run .window
 
-  far : {i : ℤ} → InWindow run i → Far i
+  pub far : {i : ℤ} → InWindow run i → Far i
   far {i} w =
       let h = pos (run .window / 2) in
       let l = w .left in
@@ -39,7 +39,7 @@ module _ {run : Run} (v : ValidRun run) (source : Source) where
       let is = nonneg (i +ℤ h) low in
       record { d = natAbs (i +ℤ h); is = is; below = omega (arith, parts, halves v, apart i) }
 
-  point : (i : ℤ) {j d : ℕ} → i +ℤ pos (run .window / 2) ≡ pos d → Hits run source i j → Points run source d j
+  pub point : (i : ℤ) {j d : ℕ} → i +ℤ pos (run .window / 2) ≡ pos d → Hits run source i j → Points run source d j
   point i {j} {d} e h = on-points run source d j .0 (hits-on run source i j d e .0 h)
 
   -- the next point of the lattice is the next hit

@@ -1,4 +1,4 @@
--- Document 01, "First hit from a cell on" and "Listing": what the two calls reply and store, for every input.
+-- Document 01, "First hit from a cell on" and "Listing", and request E5: what the two calls reply and store, for every input.
 use Prim.Native.Nat.{ℕ, min}
 use mathlib.Core.Path.{_≡_}
 use mathlib.Core.List.{List, [], _∷_, _++_}
@@ -18,7 +18,8 @@ use Rattle.hits.specs.declared.FirstHit.the-variants.{At, Nothing, Refus
 use Rattle.hits.specs.declared.Listing.{Listing}
 use Rattle.hits.specs.declared.Listing.the-variants.{Done, More, Refused as Refused·listing}
 
--- "First hit and listing: 1, 2, 3, 4, 8", with 17, 18 for 2 (E1, E2). "8: starting cell not in the run".
+-- "First hit and listing: 1, 2, 3, 4, 8", with 17, 18 for 2 (E1, E2) and "22 .. after 4 where no weight is given" (E5). "8: starting
+-- cell not in the run".
 unfoldable pub firstHitTests : Run → Source → RunCell → Tests
 firstHitTests run source start =
     runTests run andThen

@@ -53,7 +53,7 @@ fn judge(run: Run, source: Source, start: RunCell) -> Verdict
 
 // Public operation. The smallest hit cell of a run that is not below the start. A point of the source is carried down the
 // division sequence of 002 into the window, so that the cost is O(log p) however far the hit is.
-// Refused, in this order: 1, 17, 18, 3 for the run, 4 for the source, 8 for the start.
+// Refused, in this order: 1, 17, 18, 3 for the run, 4, 22 for the source, 8 for the start.
 pub fn first_hit(run: Run, source: Source, start: RunCell) -> FirstHit
     ensures { λ r. ⌜ FirstHitPromise run source start r ⌝ }
 {
@@ -114,7 +114,7 @@ fn write_hits(run: Run, source: Source, start: RunCell, room: &mut [u64]) -> Lis
 
 // Public operation. The hit cells of a run that are not below the start, written into the room in rising order; what comes
 // back is their count and, if one is left that did not fit, the next. Nothing is stored before the last test is passed.
-// Refused, in this order: 1, 17, 18, 3 for the run, 4 for the source, 8 for the start, 9 for an empty room.
+// Refused, in this order: 1, 17, 18, 3 for the run, 4, 22 for the source, 8 for the start, 9 for an empty room.
 pub fn list_hits(run: Run, source: Source, start: RunCell, room: &mut [u64]) -> Listing
     ensures { λ r. ⌜ ListingPromise run source start (now (room .entry)) r (now (room .exit)) ⌝ }
 {

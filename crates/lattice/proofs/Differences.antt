@@ -4,7 +4,7 @@ use mathlib.Core.Path.{_≡_, ap}
 use mathlib.Core.Logic.{_↔_}
 use Prim.Native.Nat.{ℕ, _+_, _*_, _%_}
 use native.Mathlib.Omega.{arith}
-use Rattle.lattice.proofs.Congruence.{Cong, cong-eq, cong-sym, cong-trans, cong-mod}
+use Rattle.lattice.proofs.Congruence.{Cong, cong-eq, cong-sym, cong-trans, cong-cancel, cong-mod}
 
 -- (-A, β) lies in L
 pub record Lft (p r A β : ℕ) : Type 0 where
@@ -18,16 +18,27 @@ pub record Rgt (p r C δ : ℕ) : Type 0 where
 pub record Go (p r d Y e : ℕ) : Type 0 where
   pub cong : Cong p e (d + r * Y)
 
--- the coset t·y + κ has a point at distance d on line y
-pub record On (p t κ d y : ℕ) : Type 0 where
-  pub cong : Cong p d (t * y + κ)
+-- the coset t·y + κ - s has a point at distance d on line y
+pub record On (p t κ s d y : ℕ) : Type 0 where
+  pub cong : Cong p (d + s) (t * y + κ)
 
 -- two points of a coset differ by a vector of L; a point and such a vector make a point
-pub on-go : {p t κ d y : ℕ} (Y e : ℕ) → On p t κ d y → On p t κ e (y + Y) ↔ Go p t d Y e
-on-go {p} {t} {κ} {d} {y} Y e h = (λ o. record { cong = cong-trans (o .cong) (cong-sym shift) }, λ g. record { cong = cong-trans (g .cong) shift })
+pub on-go : {p t κ s d y : ℕ} (Y e : ℕ) → On p t κ s d y → On p t κ s e (y + Y) ↔ Go p t d Y e
+on-go {p} {t} {κ} {s} {d} {y} Y e h = (
+  λ o. record { cong = cong-cancel s (cong-trans (o .cong) (cong-sym shift)) },
+  λ g. record { cong = cong-trans (record { up = g .cong .up; down = g .cong .down; same = omega (arith, g .cong .same) }) shift },
+)
   where
-    shift : Cong p (d + t * Y) (t * (y + Y) + κ)
-    shift = record { up = h .cong .up; down = h .cong .down; same = omega arith }
+    shift : Cong p (d + t * Y + s) (t * (y + Y) + κ)
+    shift = record { up = h .cong .up; down = h .cong .down; same = omega (arith, h .cong .same) }
+
+-- and so backwards
+pub on-back : {p t κ s d y Y e : ℕ} → On p t κ s e (y + Y) → Go p t d Y e → On p t κ s d y
+on-back o g = record { cong = record { up = o .cong .up + g .cong .down; down = o .cong .down + g .cong .up; same = omega (arith, o .cong .same, g .cong .same) } }
+
+-- on one line they are whole periods apart
+pub on-cong : {p t κ s d e y : ℕ} → On p t κ s d y → On p t κ s e y → Cong p d e
+on-cong {s = s} o o′ = cong-cancel s (cong-trans (o .cong) (cong-sym (o′ .cong)))
 
 -- steps add up; the rest of a way is a way
 pub go-on : {p r d Y d₁ : ℕ} (Z e : ℕ) → Go p r d Y d₁ → Go p r d₁ Z e ↔ Go p r d (Y + Z) e

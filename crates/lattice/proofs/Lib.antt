@@ -7,6 +7,7 @@ pub mod Span
 pub mod Stage
 pub mod Gcd
 pub mod Pair
+pub mod Reach
 pub mod Unique
 pub mod First
 pub mod Next

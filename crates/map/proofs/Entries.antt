@@ -17,7 +17,7 @@ use Rattle.scope.proofs.Hits.{hit-shift}
 use Rattle.map.specs.Sum.{capped, raised}
 use Rattle.sources.specs.Entry.{Entry}
 pub use Rattle.sources.specs.Lists.{ValidEntry, ValidEntries}
-pub use Rattle.sources.proofs.Entries.{entry, entries-length, entries-from, valid-entries, valid-entries-pass}
+pub use Rattle.sources.proofs.Entries.{entries-length, entries-from, valid-entries, valid-entries-pass}
 use Rattle.map.specs.Promise.{weightAt, added}
 use Rattle.map.specs.Inner.{chosen}
 use Rattle.map.proofs.Raised.{raised-again, raised-move, raised-length, raised-getD, raised-within, capped-below}

@@ -15,9 +15,9 @@ use Rattle.map.specs.Sum.{capped, raised}
 use Rattle.map.specs.Inner.{spaced}
 use Rattle.scope.specs.declared.Run.{Run}
 use Rattle.scope.specs.declared.Source.{Source}
-use Rattle.scope.specs.Run.{UpTo, lineOf}
+use Rattle.scope.specs.Run.{ValidSource, UpTo, lineOf}
 use Rattle.scope.specs.Hit.{isHit}
-use Rattle.scope.proofs.Hits.{origin, On, hit-on, miss-on, hit-or-miss}
+use Rattle.scope.proofs.Hits.{origin, on-origin, hit-on, miss-on, hit-or-miss}
 use Rattle.map.specs.Promise.{weightAt}
 use Rattle.map.proofs.Raised.{RaisedBelow, starts, over, store, patch}
 
@@ -82,18 +82,19 @@ steps-mod p a b n =
     sym (rw z (add-mul-mod-self-right _ (n * (b / p)) p))
 
 -- that is what they gain from the source of a run whose first distance on the run's first line is `start`
-pub row-gain : (run : Run) (source : Source) (weight start x : ℕ) → start ≡ (run .interval * run .first + origin run source) % source .period → rowGain (run .window) (source .period) (run .interval % source .period) start weight x ≡ weightAt run (record { source = source; weight = weight } ∷ []) x
-unfolding rowGain weightAt On lineOf
-row-gain run source weight start x e =
+pub row-gain : (run : Run) (source : Source) → ValidSource source → (weight start x : ℕ) → start ≡ (run .interval * run .first + origin run source) % source .period → rowGain (run .window) (source .period) (run .interval % source .period) start weight x ≡ weightAt run (record { source = source; weight = weight } ∷ []) x
+unfolding rowGain weightAt lineOf
+row-gain run source s weight start x e =
     let p = source .period in
     let t = run .interval in
     let n = x / run .window in
+    let on = on-origin run s (x % run .window) (lineOf run x) in
     let there : (start + n * (t % p)) % p ≡ (t * lineOf run x + origin run source) % p =
     rw e (mod-add-mod (t * run .first + origin run source) p (n * (t % p)) ∙ steps-mod p _ t n ∙ ap (λ m. m % p) (omega arith)) in
     rw (there, add-zero)
     (⊎-elim
-    (λ (h : isHit run source x ≡ true). rw h (spaced-hit p _ _ weight (sym (hit-on run source x .0 h))))
-    (λ (h : isHit run source x ≡ false). rw h (spaced-miss p _ _ weight (λ e. miss-on run source x .0 h (sym e))))
+    (λ (h : isHit run source x ≡ true). rw h (spaced-hit p _ _ weight (sym (on .0 (hit-on run source x .0 h)))))
+    (λ (h : isHit run source x ≡ false). rw h (spaced-miss p _ _ weight (λ e. miss-on run source x .0 h (on .1 (sym e)))))
     (hit-or-miss (isHit run source x)))
 
 -- so many whole lines of a map are done

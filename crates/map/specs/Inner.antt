@@ -13,17 +13,18 @@ use Rattle.scope.specs.Run.{ValidRun, ValidSource, ceiling, cellsOf, offsetOf}
 use Rattle.scope.specs.Hit.{isHit}
 use Rattle.scope.specs.Refusal.{complaint}
 use Rattle.sources.specs.Entry.{Entry, entriesOf, listTests}
+use Rattle.sources.specs.Lists.{OneLength}
 use Rattle.walk.specs.declared.Walk.{Walk}
 use Rattle.walk.specs.declared.LineHit.{LineHit}
 use Rattle.walk.specs.Inner.{Leads, Stands}
 use Rattle.map.specs.Sum.{capped}
 use Rattle.map.specs.Promise.{weightAt}
 
--- What is looked at before the first store: the run, the two lists and the map's length are in order.
-pub record ValidCall (run : Run) (periods weights map : List ℕ) : Type 0 where
+-- What is looked at before the first store: the run, the three lists and the map's length are in order.
+pub record ValidCall (run : Run) (periods weights phases map : List ℕ) : Type 0 where
   pub valid : ValidRun run
-  pub equal : length periods ≡ length weights
-  pub sound : complaint (listTests ceiling 1 (entriesOf periods weights)) ≡ none
+  pub equal : OneLength periods weights phases
+  pub sound : complaint (listTests ceiling 1 (entriesOf periods weights phases)) ≡ none
   pub whole : length map ≡ cellsOf run
 
 -- The entries whose period is at least `low` and below `high`.

@@ -131,16 +131,25 @@ fn add_source(run: Run, source: Source, weight: u8, map: &mut [u8])
 }
 
 // Adds the sources with low ≤ period < high to the map of a run, one after the other.
-fn add_chosen(run: Run, periods: &[u32], weights: &[u32], low: u32, high: u32, map: &mut [u8])
-    requires { ⌜ ValidCall run (now periods) (now weights) (now map) ⌝ }
-    ensures { λ _. ⌜ now (map .exit) ≡ added ceiling run (chosen low high (entriesOf (now (periods .entry)) (now (weights .entry)))) (now (map .entry)) ⌝ }
+fn add_chosen(
+    run: Run,
+    periods: &[u32],
+    weights: &[u32],
+    phases: &[u32],
+    low: u32,
+    high: u32,
+    map: &mut [u8],
+)
+    requires { ⌜ ValidCall run (now periods) (now weights) (now phases) (now map) ⌝ }
+    ensures { λ _. ⌜ now (map .exit) ≡ added ceiling run (chosen low high (entriesOf (now (periods .entry)) (now (weights .entry)) (now (phases .entry)))) (now (map .entry)) ⌝ }
 {
     let mut k = 0;
     while k < periods.len() {
         let period = periods[k];
         if low <= period {
             if period < high {
-                add_source(run, Source { period }, weights[k] as u8, map);
+                let phase = phases[k];
+                add_source(run, Source { period, phase }, weights[k] as u8, map);
             }
         }
         k += 1;
@@ -166,9 +175,17 @@ fn block_from(run: Run, first: u32, lines: u32) -> Run
 }
 
 // Adds the sources with period < high to the map of a run, one block of so many lines after the other.
-fn add_blocks(run: Run, periods: &[u32], weights: &[u32], high: u32, lines: u32, map: &mut [u8])
-    requires { ⌜ ValidCall run (now periods) (now weights) (now map) × (1 ≤ lines) ⌝ }
-    ensures { λ _. ⌜ now (map .exit) ≡ added ceiling run (chosen 0 high (entriesOf (now (periods .entry)) (now (weights .entry)))) (now (map .entry)) ⌝ }
+fn add_blocks(
+    run: Run,
+    periods: &[u32],
+    weights: &[u32],
+    phases: &[u32],
+    high: u32,
+    lines: u32,
+    map: &mut [u8],
+)
+    requires { ⌜ ValidCall run (now periods) (now weights) (now phases) (now map) × (1 ≤ lines) ⌝ }
+    ensures { λ _. ⌜ now (map .exit) ≡ added ceiling run (chosen 0 high (entriesOf (now (periods .entry)) (now (weights .entry)) (now (phases .entry)))) (now (map .entry)) ⌝ }
 {
     let mut first = run.first;
     while first <= run.last {
@@ -179,6 +196,7 @@ fn add_blocks(run: Run, periods: &[u32], weights: &[u32], high: u32, lines: u32,
             block,
             periods,
             weights,
+            phases,
             0,
             high,
             &mut map[start.0 as usize..end.0 as usize],
@@ -203,39 +221,50 @@ fn shortest(periods: &[u32]) -> u32
 }
 
 // Adds all sources to the map of a run: in blocks those with short periods, where the map is long, and in one go the others.
-fn add_all(run: Run, periods: &[u32], weights: &[u32], map: &mut [u8])
-    requires { ⌜ ValidCall run (now periods) (now weights) (now map) ⌝ }
-    ensures { λ _. ⌜ now (map .exit) ≡ added ceiling run (entriesOf (now (periods .entry)) (now (weights .entry))) (now (map .entry)) ⌝ }
+fn add_all(run: Run, periods: &[u32], weights: &[u32], phases: &[u32], map: &mut [u8])
+    requires { ⌜ ValidCall run (now periods) (now weights) (now phases) (now map) ⌝ }
+    ensures { λ _. ⌜ now (map .exit) ≡ added ceiling run (entriesOf (now (periods .entry)) (now (weights .entry)) (now (phases .entry))) (now (map .entry)) ⌝ }
 {
     if LONG < map.len() {
         if shortest(periods) < SHORT {
-            add_blocks(run, periods, weights, SHORT, BLOCK / run.window, map);
-            add_chosen(run, periods, weights, SHORT, PERIODS, map);
+            add_blocks(
+                run,
+                periods,
+                weights,
+                phases,
+                SHORT,
+                BLOCK / run.window,
+                map,
+            );
+            add_chosen(run, periods, weights, phases, SHORT, PERIODS, map);
             return;
         }
     }
-    add_chosen(run, periods, weights, 0, PERIODS, map);
+    add_chosen(run, periods, weights, phases, 0, PERIODS, map);
 }
 
 // Public operation. Adds to every cell of a run's map the weights of all listed sources that hit it, up to the ceiling.
-// Refused, in this order: 1, 17, 18, 3 for the run, 10 for lists of unequal length, 4 or 7 for the first source at fault, with its
+// Refused, in this order: 1, 17, 18, 3 for the run, 10 for lists of unequal length, 4, 7 or 22 for the first source at fault, with its
 // place, 9 for a map not of the run's length. All of that is looked at before the first store.
-pub fn add_to_map(run: Run, periods: &[u32], weights: &[u32], map: &mut [u8]) -> Added
-    ensures { λ r. ⌜ MapPromise run (now (periods .entry)) (now (weights .entry)) (now (map .entry)) r (now (map .exit)) ⌝ }
+pub fn add_to_map(
+    run: Run,
+    periods: &[u32],
+    weights: &[u32],
+    phases: &[u32],
+    map: &mut [u8],
+) -> Added
+    ensures { λ r. ⌜ MapPromise run (now (periods .entry)) (now (weights .entry)) (now (phases .entry)) (now (map .entry)) r (now (map .exit)) ⌝ }
 {
     if let Verdict::Refused(reason, place) = scope::judge_run(run) {
         return Added::Refused(reason, place);
     }
-    if periods.len() != weights.len() {
-        return Added::Refused(Reason::Lists, Place::Nowhere);
-    }
-    if let Verdict::Refused(reason, place) = sources::judge_entries(periods, weights) {
+    if let Verdict::Refused(reason, place) = sources::judge_lists(periods, weights, phases) {
         return Added::Refused(reason, place);
     }
     let cells = scope::cells(run);
     if map.len() as u64 != cells {
         return Added::Refused(Reason::Room, Place::Nowhere);
     }
-    add_all(run, periods, weights, map);
+    add_all(run, periods, weights, phases, map);
     Added::Done
 }

@@ -6,3 +6,4 @@ pub mod Outputs
 pub mod Refusals
 pub mod Unique
 pub mod Example
+pub mod Told

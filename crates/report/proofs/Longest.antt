@@ -25,16 +25,16 @@ use Rattle.report.proofs.Sources.{hits-few}
 
 -- ---- the sources
 
-entry-long : (run : Run) (k : ℕ) (e : Entry) → cellsOf run ≤ mostCells → k ≤ largest → ValidEntries ceiling (e ∷ []) → length (entryReport run k e) ≤ 48
+entry-long : (run : Run) (k : ℕ) (e : Entry) → cellsOf run ≤ mostCells → k ≤ largest → ValidEntries ceiling (e ∷ []) → length (entryReport run k e) ≤ 59
 unfolding entryReport
 entry-long run k e few place v =
     let own = v .0 in
     let hits = hits-few run (e .source) in
     let s = own .source in
-    line-long srcWord _ (up-to (k ∷ e .source .period ∷ e .weight ∷ length (hitsFrom run (e .source) 0) ∷ []) (place, (omega (arith, s .fits), (omega (arith, own .fits), (omega arith, tt)))))
+    line-long srcWord _ (up-to (k ∷ e .source .period ∷ e .weight ∷ e .source .phase ∷ length (hitsFrom run (e .source) 0) ∷ []) (place, (omega (arith, s .fits), (omega (arith, own .fits), (omega (arith, s .fits, s .phased), (omega arith, tt))))))
 
 sources-long : (run : Run) (k : ℕ) (entries : List Entry) → cellsOf run ≤ mostCells → k + length entries ≤ mostCells → ValidEntries ceiling entries
-    → length (srcReport run k entries) ≤ 48 * length entries
+    → length (srcReport run k entries) ≤ 59 * length entries
 unfolding srcReport
 sources-long run k [] few place v = omega arith
 sources-long run k (e ∷ entries) few place v =
@@ -99,11 +99,11 @@ run-long {run} v few =
     (up-to (runNumbers run ++ (cellsOf run ∷ []))
     (omega (arith, v .wide), (omega (arith, v .fits), (omega (arith, v .ordered, v .ends), (omega (arith, v .ends), (omega arith, tt))))))
 
-pub whole-long : {run : Run} {periods weights : List ℕ} → ValidInput run periods weights → length (entriesOf periods weights) ≤ mostSources
-    → length (wholeReport run (entriesOf periods weights)) ≤ 920650
+pub whole-long : {run : Run} {periods weights phases : List ℕ} → ValidInput run periods weights phases → length (entriesOf periods weights phases) ≤ mostSources
+    → length (wholeReport run (entriesOf periods weights phases)) ≤ 921354
 unfolding wholeReport cellsReport endReport
-whole-long {run} {periods} {weights} a few =
-    let es = entriesOf periods weights in
+whole-long {run} {periods} {weights} {phases} a few =
+    let es = entriesOf periods weights phases in
     let m = reportedMap run es in
     let cells = map-long run es in
     let r = run-long (a .valid) (a .few) in

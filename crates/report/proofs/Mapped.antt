@@ -16,6 +16,7 @@ use Rattle.scope.proofs.Judged.{Passes, sound, both}
 use Rattle.scope.proofs.Limits.{valid-run-passes}
 use Rattle.map.specs.declared.Added.{Added}
 use Rattle.map.specs.Promise.{mapTests, added, MapPromise}
+use Rattle.sources.proofs.Entries.{valid-lists}
 use Rattle.map.proofs.Unique.{stores-added}
 use Rattle.report.specs.Report.{reportedMap}
 use Rattle.report.specs.Inner.{ValidInput}
@@ -26,13 +27,13 @@ cleared-part n h =
     let all : n - 0 ≡ n = omega arith in
     ap (λ k. take k (zeros mostCells)) all ∙ take-zeros n mostCells h
 
-pub map-is : {run : Run} {periods weights map : List ℕ} {answer : Added} {after : List ℕ} → ValidInput run periods weights → map ≡ zeros (cellsOf run)
-    → MapPromise run periods weights map answer after → after ≡ reportedMap run (entriesOf periods weights)
+pub map-is : {run : Run} {periods weights phases map : List ℕ} {answer : Added} {after : List ℕ} → ValidInput run periods weights phases → map ≡ zeros (cellsOf run)
+    → MapPromise run periods weights phases map answer after → after ≡ reportedMap run (entriesOf periods weights phases)
 unfolding mapTests reportedMap
-map-is {run} {periods} {weights} {map} a e p =
+map-is {run} {periods} {weights} {phases} {map} a e p =
     let long : length map ≡ cellsOf run = ap length e ∙ length-zeros (cellsOf run) in
-    let passes : Passes (mapTests ceiling run periods weights map) =
+    let passes : Passes (mapTests ceiling run periods weights phases map) =
     both
-    (both (both (valid-run-passes (a .valid)) (sound (ap not (eq-eqb _ _ (a .equal))))) (record { is = a .sound }))
+    (both (valid-run-passes (a .valid)) (valid-lists ceiling periods weights phases .1 (a .equal, record { is = a .sound })))
     (sound (ap not (eq-eqb _ _ long))) in
-    stores-added passes p .1 ∙ ap (added ceiling run (entriesOf periods weights)) e
+    stores-added passes p .1 ∙ ap (added ceiling run (entriesOf periods weights phases)) e

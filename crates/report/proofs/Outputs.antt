@@ -23,8 +23,8 @@ use Rattle.sources.specs.Entry.{entriesOf}
 use Rattle.scope.specs.Reply.{refused, answered}
 use Rattle.scope.proofs.Judged.{Passes}
 use Rattle.scope.proofs.Limits.{passes-when, passes-first, passes-then, valid-run}
-use Rattle.sources.specs.Lists.{periodsOf, weightsOf}
-use Rattle.sources.proofs.Entries.{periods-length, weights-length}
+use Rattle.sources.specs.Lists.{periodsOf, weightsOf, phasesOf}
+use Rattle.sources.proofs.Entries.{periods-length, weights-length, phases-length}
 use Rattle.words.specs.Line.{fields, line}
 use Rattle.text.specs.Form.{Content, Spells}
 use Rattle.text.specs.Promise.{mostSources, mostCells, saysText, replyTo, handed, textTests, TextPromise, sourcesOf}
@@ -82,6 +82,11 @@ module _ {text : List ℕ} {input : Input} (p : TextPromise text input) where
       let es = handed (p .content) in
       omega (arith, ap length (p .weights), padded-within mostSources (weightsOf es), weights-length es, p .counts)
 
+  pub phases-within : input .count ≤ length (input .phases)
+  phases-within =
+      let es = handed (p .content) in
+      omega (arith, ap length (p .phases), padded-within mostSources (phasesOf es), phases-length es, p .counts)
+
   module _ {run : Run} (e : input .answer ≡ Read run) where
     -- what the text says
     abbrev content : Content
@@ -97,26 +102,28 @@ module _ {text : List ℕ} {input : Input} (p : TextPromise text input) where
         let few = ltb-false mostSources (length (sourcesOf input)) (passes-when (passes-then (passes-first (passes-first (spells .1))))) in
         omega (arith, length-take (input .count - 0) (input .periods), p .counts, ap length (sources-handed text input p))
 
-    pub accepts : ValidInput run (take (input .count - 0) (input .periods)) (take (input .count - 0) (input .weights))
+    pub accepts : ValidInput run (take (input .count - 0) (input .periods)) (take (input .count - 0) (input .weights)) (take (input .count - 0) (input .phases))
     unfolding textTests
     accepts =
         let t = spells .1 in
         let all : input .count - 0 ≡ input .count = omega arith in
         rw all
         (record {
-          valid = valid-run (passes-first (passes-first (passes-first t))) (omega (arith, spells .0 .runSmall 1));
+          valid = valid-run (passes-first (passes-first (passes-first t))) (omega (arith, spells .0 .formed .runSmall 1));
           few = ltb-false mostCells (cellsOf run) (passes-when (passes-then (passes-first t)));
-          equal = length-take-le (input .count) (input .periods) periods-within ∙ sym (length-take-le (input .count) (input .weights) weights-within);
+          equal =
+              let periods = length-take-le (input .count) (input .periods) periods-within in
+              (periods ∙ sym (length-take-le (input .count) (input .weights) weights-within), periods ∙ sym (length-take-le (input .count) (input .phases) phases-within));
           sound = passes-then t .is;
         })
 
-    pub reports : {output : Output} → Prints (wholeReport run (entriesOf (take (input .count - 0) (input .periods)) (take (input .count - 0) (input .weights)))) output
+    pub reports : {output : Output} → Prints (wholeReport run (entriesOf (take (input .count - 0) (input .periods)) (take (input .count - 0) (input .weights)) (take (input .count - 0) (input .phases)))) output
         → ReportPromise text output
     unfolding reportOf printed
     reports {output} h =
         let all : input .count - 0 ≡ input .count = omega arith in
         let replied : replyTo (p .content) ≡ answered run = sym (p .says) ∙ ap saysText e in
-        let whole : wholeReport run (entriesOf (take (input .count - 0) (input .periods)) (take (input .count - 0) (input .weights))) ≡ reportOf (p .content) =
+        let whole : wholeReport run (entriesOf (take (input .count - 0) (input .periods)) (take (input .count - 0) (input .weights)) (take (input .count - 0) (input .phases))) ≡ reportOf (p .content) =
         rw all (ap (wholeReport run) (sources-handed text input p) ∙ ap (λ r. printed r (handed (p .content))) (sym replied)) in
         record { content = p .content; reads = p .reads; says = subst (λ bytes. Prints bytes output) whole h }
 

@@ -20,7 +20,9 @@ use Rattle.hits.specs.declared.Listing.{Listing}
 use Rattle.hits.specs.declared.Listing.the-variants.{Done}
 use Rattle.hits.specs.Promise.{firstHitTests, listingTests, listed, ListingPromise}
 use Rattle.hits.proofs.Unique.{says-listing-injective}
-use Rattle.sources.proofs.Entries.{entry, entries-from}
+use Rattle.sources.specs.Lists.{OneLength}
+use Rattle.sources.specs.Table.{entryAfter}
+use Rattle.sources.proofs.Entries.{entries-from}
 use Rattle.map.proofs.Entries.{ValidEntries, valid-entries}
 use Rattle.report.specs.Report.{entryReport, srcReport}
 use Rattle.report.specs.Inner.{ValidInput}
@@ -52,45 +54,45 @@ all-listed {run} {source} {start} {room} {r} v s zero long p =
 -- ---- one line after the other
 
 -- the lines of the sources before place k are written, and those from there on are within the limits
-pub record SrcLines (before : List ℕ) (at : ℕ) (run : Run) (periods weights : List ℕ) (k next : ℕ) (room : List ℕ) : Type 0 where
+pub record SrcLines (before : List ℕ) (at : ℕ) (run : Run) (periods weights phases : List ℕ) (k next : ℕ) (room : List ℕ) : Type 0 where
   pub writing :
-      Writing before at (srcReport run 1 (entriesOf periods weights)) (srcReport run (suc k) (entriesOf (drop k periods) (drop k weights))) next room
-  pub equal : length periods ≡ length weights
-  pub valid : ValidEntries ceiling (entriesOf (drop k periods) (drop k weights))
+      Writing before at (srcReport run 1 (entriesOf periods weights phases)) (srcReport run (suc k) (entriesOf (drop k periods) (drop k weights) (drop k phases))) next room
+  pub equal : OneLength periods weights phases
+  pub valid : ValidEntries ceiling (entriesOf (drop k periods) (drop k weights) (drop k phases))
 
-pub src-starts : {room : List ℕ} {at : ℕ} {run : Run} {periods weights : List ℕ} → ValidInput run periods weights
-    → at + length (srcReport run 1 (entriesOf periods weights)) ≤ length room → SrcLines room at run periods weights 0 at room
-src-starts {room} {at} {run} {periods} {weights} a h =
-    record { writing = writing-starts room at _ h; equal = a .equal; valid = valid-entries ceiling 1 (entriesOf periods weights) (record { is = a .sound }) }
+pub src-starts : {room : List ℕ} {at : ℕ} {run : Run} {periods weights phases : List ℕ} → ValidInput run periods weights phases
+    → at + length (srcReport run 1 (entriesOf periods weights phases)) ≤ length room → SrcLines room at run periods weights phases 0 at room
+src-starts {room} {at} {run} {periods} {weights} {phases} a h =
+    record { writing = writing-starts room at _ h; equal = a .equal; valid = valid-entries ceiling 1 (entriesOf periods weights phases) (record { is = a .sound }) }
 
-module _ {before : List ℕ} {at : ℕ} {run : Run} {periods weights : List ℕ} {k next : ℕ} {room : List ℕ}
-    (w : SrcLines before at run periods weights k next room) (h : k < length periods) where
+module _ {before : List ℕ} {at : ℕ} {run : Run} {periods weights phases : List ℕ} {k next : ℕ} {room : List ℕ}
+    (w : SrcLines before at run periods weights phases k next room) (h : k < length periods) where
   abbrev here : Entry
-  here = entry (getD periods k 0) (getD weights k 0)
+  here = entryAfter periods weights phases k
 
-  split : entriesOf (drop k periods) (drop k weights) ≡ here ∷ entriesOf (drop (k + 1) periods) (drop (k + 1) weights)
-  split = entries-from periods weights k h (omega (arith, w .equal)) ∙ rw (add-one k)
+  split : entriesOf (drop k periods) (drop k weights) (drop k phases) ≡ here ∷ entriesOf (drop (k + 1) periods) (drop (k + 1) weights) (drop (k + 1) phases)
+  split = entries-from periods weights phases k h (omega (arith, w .equal .0)) (omega (arith, w .equal .1)) ∙ rw (add-one k)
 
-  from : srcReport run (suc k) (entriesOf (drop k periods) (drop k weights))
-      ≡ entryReport run (k + 1) here ++ srcReport run (suc (k + 1)) (entriesOf (drop (k + 1) periods) (drop (k + 1) weights))
+  from : srcReport run (suc k) (entriesOf (drop k periods) (drop k weights) (drop k phases))
+      ≡ entryReport run (k + 1) here ++ srcReport run (suc (k + 1)) (entriesOf (drop (k + 1) periods) (drop (k + 1) weights) (drop (k + 1) phases))
   unfolding srcReport
   from = rw (split, add-one k)
 
-  here-valid : ValidEntries ceiling (here ∷ entriesOf (drop (k + 1) periods) (drop (k + 1) weights))
+  here-valid : ValidEntries ceiling (here ∷ entriesOf (drop (k + 1) periods) (drop (k + 1) weights) (drop (k + 1) phases))
   here-valid = subst (ValidEntries ceiling) split (w .valid)
 
-  pub src-valid : ValidSource (record { period = getD periods k 0 })
+  pub src-valid : ValidSource (record { period = getD periods k 0; phase = getD phases k 0 })
   src-valid = here-valid .0 .source
 
-  pub src-fits : next + length (entryReport run (k + 1) (entry (getD periods k 0) (getD weights k 0))) ≤ length room
+  pub src-fits : next + length (entryReport run (k + 1) (entryAfter periods weights phases k)) ≤ length room
   src-fits = piece-fits (w .writing) (entryReport run (k + 1) here) _ from
 
-  pub src-written : {end : ℕ} {after : List ℕ} → Written room next (entryReport run (k + 1) (entry (getD periods k 0) (getD weights k 0))) end after
-      → SrcLines before at run periods weights (k + 1) end after
+  pub src-written : {end : ℕ} {after : List ℕ} → Written room next (entryReport run (k + 1) (entryAfter periods weights phases k)) end after
+      → SrcLines before at run periods weights phases (k + 1) end after
   src-written v = record { writing = writing-more (w .writing) from v; equal = w .equal; valid = here-valid .1 }
 
-pub src-ends : {before : List ℕ} {at : ℕ} {run : Run} {periods weights : List ℕ} {k next : ℕ} {room : List ℕ}
-    → SrcLines before at run periods weights k next room → length periods ≤ k
-    → Written before at (srcReport run 1 (entriesOf periods weights)) next room
+pub src-ends : {before : List ℕ} {at : ℕ} {run : Run} {periods weights phases : List ℕ} {k next : ℕ} {room : List ℕ}
+    → SrcLines before at run periods weights phases k next room → length periods ≤ k
+    → Written before at (srcReport run 1 (entriesOf periods weights phases)) next room
 unfolding srcReport entriesOf
 src-ends {periods = periods} w h = writing-ends (w .writing) (rw (drop-of-length-le periods h))

@@ -9,10 +9,11 @@ use Rattle.scope.specs.Run.{ValidRun, ceiling, cellsOf}
 use Rattle.scope.specs.Refusal.{complaint}
 use Rattle.text.specs.Promise.{mostCells}
 use Rattle.sources.specs.Entry.{entriesOf, listTests}
+use Rattle.sources.specs.Lists.{OneLength}
 
 -- A run and lists of sources that a text may hold: nothing of them is refused.
-pub record ValidInput (run : Run) (periods weights : List ℕ) : Type 0 where
+pub record ValidInput (run : Run) (periods weights phases : List ℕ) : Type 0 where
   pub valid : ValidRun run
   pub few : cellsOf run ≤ mostCells
-  pub equal : length periods ≡ length weights
-  pub sound : complaint (listTests ceiling 1 (entriesOf periods weights)) ≡ none
+  pub equal : OneLength periods weights phases
+  pub sound : complaint (listTests ceiling 1 (entriesOf periods weights phases)) ≡ none

@@ -1,4 +1,4 @@
--- Document 01, "The list program": what it prints.
+-- Document 01, "The list program", and requests E1 and E5: what it prints.
 use Prim.Native.Nat.{ℕ, suc, _+_}
 use mathlib.Core.Bool.{cond}
 use mathlib.Core.List.{List, [], _∷_, _++_}
@@ -44,9 +44,10 @@ refusalReport n (AtSource k) = refusedWord ++ (32 ∷ digits n ++ (32 ∷ line s
 unfoldable pub runReport : Run → List ℕ
 runReport run = line runWord (runNumbers run ++ (cellsOf run ∷ []))
 
--- "`src` is place, period, weight, hits": the line of the source at place k.
+-- "`src` is place, period, weight, hits", and "gains the phase before the hit count" (E5): the line of the source at place k.
 unfoldable pub entryReport : Run → ℕ → Entry → List ℕ
-entryReport run k entry = line srcWord (k ∷ entry .source .period ∷ entry .weight ∷ length (hitsFrom run (entry .source) 0) ∷ [])
+entryReport run k entry =
+    line srcWord (k ∷ entry .source .period ∷ entry .weight ∷ entry .source .phase ∷ length (hitsFrom run (entry .source) 0) ∷ [])
 
 -- The same of all sources, the first of them at place k.
 unfoldable pub srcReport : Run → ℕ → List Entry → List ℕ

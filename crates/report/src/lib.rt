@@ -28,7 +28,7 @@ const ROOM: usize = 921600;
 // A run in a text has at most so many cells.
 const CELLS: usize = 65536;
 
-// What the list program prints: how many bytes, and the bytes; the rest is 0. The longest report has 920,650 bytes at most.
+// What the list program prints: how many bytes, and the bytes; the rest is 0. The longest report has 921,354 bytes at most.
 pub struct Output {
     pub length: usize,
     pub bytes: [u8; ROOM],
@@ -135,28 +135,31 @@ fn write_source(
         place as u64,
         source.period as u64,
         weight as u64,
+        source.phase as u64,
         count_hits(run, source),
     ];
     words::write_line(room, at, b"src", &numbers)
 }
 
 // Writes the lines of all sources.
-fn write_sources(room: &mut [u8], at: usize, run: Run, periods: &[u32], weights: &[u32]) -> usize
-    requires { ⌜ ValidInput run (now periods) (now weights) ⌝ }
-    requires { ⌜ at + length (srcReport run 1 (entriesOf (now periods) (now weights))) ≤ length (now room) ⌝ }
-    ensures { λ r. ⌜ Written (now (room .entry)) at (srcReport run 1 (entriesOf (now (periods .entry)) (now (weights .entry)))) r (now (room .exit)) ⌝ }
+fn write_sources(
+    room: &mut [u8],
+    at: usize,
+    run: Run,
+    periods: &[u32],
+    weights: &[u32],
+    phases: &[u32],
+) -> usize
+    requires { ⌜ ValidInput run (now periods) (now weights) (now phases) ⌝ }
+    requires { ⌜ at + length (srcReport run 1 (entriesOf (now periods) (now weights) (now phases))) ≤ length (now room) ⌝ }
+    ensures { λ r. ⌜ Written (now (room .entry)) at (srcReport run 1 (entriesOf (now (periods .entry)) (now (weights .entry)) (now (phases .entry)))) r (now (room .exit)) ⌝ }
 {
     let mut next = at;
     let mut k = 0;
     while k < periods.len() {
-        next = write_source(
-            room,
-            next,
-            run,
-            k + 1,
-            Source { period: periods[k] },
-            weights[k],
-        );
+        let period = periods[k];
+        let phase = phases[k];
+        next = write_source(room, next, run, k + 1, Source { period, phase }, weights[k]);
         k += 1;
     }
     next
@@ -185,26 +188,33 @@ fn write_map_of(
     run: Run,
     periods: &[u32],
     weights: &[u32],
+    phases: &[u32],
     map: &mut [u8],
 ) -> usize
-    requires { ⌜ ValidInput run (now periods) (now weights) ⌝ }
+    requires { ⌜ ValidInput run (now periods) (now weights) (now phases) ⌝ }
     requires { ⌜ now map ≡ zeros (cellsOf run) ⌝ }
-    requires { ⌜ at + length (cellsReport run (entriesOf (now periods) (now weights))) ≤ length (now room) ⌝ }
-    ensures { λ r. ⌜ Written (now (room .entry)) at (cellsReport run (entriesOf (now (periods .entry)) (now (weights .entry)))) r (now (room .exit)) ⌝ }
-    ensures { λ _. ⌜ now (map .exit) ≡ reportedMap run (entriesOf (now (periods .entry)) (now (weights .entry))) ⌝ }
+    requires { ⌜ at + length (cellsReport run (entriesOf (now periods) (now weights) (now phases))) ≤ length (now room) ⌝ }
+    ensures { λ r. ⌜ Written (now (room .entry)) at (cellsReport run (entriesOf (now (periods .entry)) (now (weights .entry)) (now (phases .entry)))) r (now (room .exit)) ⌝ }
+    ensures { λ _. ⌜ now (map .exit) ≡ reportedMap run (entriesOf (now (periods .entry)) (now (weights .entry)) (now (phases .entry))) ⌝ }
 {
-    map::add_to_map(run, periods, weights, map);
+    map::add_to_map(run, periods, weights, phases, map);
     write_cells(room, at, map)
 }
 
 // Writes the whole report on a run and its sources.
-fn write_report(room: &mut [u8], run: Run, periods: &[u32], weights: &[u32]) -> usize
-    requires { ⌜ ValidInput run (now periods) (now weights) ⌝ }
-    requires { ⌜ 0 + length (wholeReport run (entriesOf (now periods) (now weights))) ≤ length (now room) ⌝ }
-    ensures { λ r. ⌜ Written (now (room .entry)) 0 (wholeReport run (entriesOf (now (periods .entry)) (now (weights .entry)))) r (now (room .exit)) ⌝ }
+fn write_report(
+    room: &mut [u8],
+    run: Run,
+    periods: &[u32],
+    weights: &[u32],
+    phases: &[u32],
+) -> usize
+    requires { ⌜ ValidInput run (now periods) (now weights) (now phases) ⌝ }
+    requires { ⌜ 0 + length (wholeReport run (entriesOf (now periods) (now weights) (now phases))) ≤ length (now room) ⌝ }
+    ensures { λ r. ⌜ Written (now (room .entry)) 0 (wholeReport run (entriesOf (now (periods .entry)) (now (weights .entry)) (now (phases .entry)))) r (now (room .exit)) ⌝ }
 {
     let after_run = write_run(room, 0, run);
-    let after_sources = write_sources(room, after_run, run, periods, weights);
+    let after_sources = write_sources(room, after_run, run, periods, weights, phases);
     let mut map = cleared();
     let cells = scope::cells(run) as usize;
     write_map_of(
@@ -213,17 +223,18 @@ fn write_report(room: &mut [u8], run: Run, periods: &[u32], weights: &[u32]) -> 
         run,
         periods,
         weights,
+        phases,
         &mut map[0..cells],
     )
 }
 
 // The output that is a report on a run and its sources.
-fn report_run(run: Run, periods: &[u32], weights: &[u32]) -> Output
-    requires { ⌜ ValidInput run (now periods) (now weights) × (length (now periods) ≤ mostSources) ⌝ }
-    ensures { λ r. ⌜ Prints (wholeReport run (entriesOf (now (periods .entry)) (now (weights .entry)))) r ⌝ }
+fn report_run(run: Run, periods: &[u32], weights: &[u32], phases: &[u32]) -> Output
+    requires { ⌜ ValidInput run (now periods) (now weights) (now phases) × (length (now periods) ≤ mostSources) ⌝ }
+    ensures { λ r. ⌜ Prints (wholeReport run (entriesOf (now (periods .entry)) (now (weights .entry)) (now (phases .entry)))) r ⌝ }
 {
     let mut bytes = blank();
-    let length = write_report(&mut bytes, run, periods, weights);
+    let length = write_report(&mut bytes, run, periods, weights, phases);
     Output { length, bytes }
 }
 
@@ -262,8 +273,14 @@ pub fn report(text: &[u8]) -> Output
     let count = input.count;
     let periods = input.periods;
     let weights = input.weights;
+    let phases = input.phases;
     match answer {
-        Answer::Read(run) => report_run(run, &periods[0..count], &weights[0..count]),
+        Answer::Read(run) => report_run(
+            run,
+            &periods[0..count],
+            &weights[0..count],
+            &phases[0..count],
+        ),
         Answer::Refused(reason, place) => report_refusal(reason, place),
     }
 }

@@ -1,5 +1,5 @@
 -- Hits. First the rule in natural numbers: with d the distance of a cell from the window's left edge, the source hits it on
--- line j exactly if d and T·j + I/2 have one remainder by the period (`On`); whoever walks uses the laws of `On` alone.
+-- line j exactly if d + s and T·j + I/2 have one remainder by the period (`On`); whoever walks uses the laws of `On` alone.
 -- Then the list of hits: how it goes on from a cell, what it holds, and what blocks make of it. Assumes nothing.
 use Prim.Native.Nat.{ℕ, zero, suc, _+_, _-_, _*_, _/_, _%_, _≤_, _<_}
 use native.Mathlib.Nat.{mod-lt, add-mod-right, div-add-mod', mod-add-div', mul-le-mul-right, add-zero, zero-add, suc-add}
@@ -10,12 +10,12 @@ use mathlib.Core.Logic.{_↔_, Iff·trans, _⊎_, inl, inr}
 use mathlib.Core.Bool.{Bool, true, false, cond, true≢false}
 use mathlib.Core.List.{List, [], _∷_, _++_, map, List·Memᴰ, List·Memᴰ·head, List·Memᴰ·tail, List·Memᴰ·not-nil, List·Memᴰ·cases-cons}
 use lib.ListN.{length}
-use lib.IntN.{ℤ, pos, _+ℤ_}
-use Rattle.signed.proofs.Parts.{parts, sum}
+use lib.IntN.{ℤ, pos, negℤ, _+ℤ_, _-ℤ_}
+use Rattle.signed.proofs.Parts.{parts, sum, neg-up, neg-dn}
 use Rattle.signed.proofs.Divides.{divides-apart, divides-test, multiples-mod}
 use Rattle.scope.specs.declared.Run.{Run}
 use Rattle.scope.specs.declared.Source.{Source}
-use Rattle.scope.specs.Run.{ValidRun, linesOf, cellsOf, lineOf, offsetOf, shiftOf}
+use Rattle.scope.specs.Run.{ValidRun, ValidSource, linesOf, cellsOf, lineOf, offsetOf, shiftOf}
 use Rattle.scope.specs.Hit.{instant, Hits, isHit, hitsAmong, hitsFrom}
 use Rattle.scope.proofs.Limits.{of-cond}
 use Rattle.scope.proofs.Numbering.{offset-distance, cell-parts, IsBlock, line-shift, offset-shift}
@@ -30,25 +30,39 @@ whole-periods p d e same h = go (decLt (d / p) (e / p))
     go (yes l) = omega (arith, div-add-mod' d p, div-add-mod' e p, mul-le-mul-right p l)
     go (no l) = absurd (omega (arith, div-add-mod' d p, div-add-mod' e p, mul-le-mul-right {m = e / p} {n = d / p} p (omega arith)))
 
--- a distance at which the source hits line 0
-abbrev pub origin : Run → Source → ℕ
-origin run source = run .window / 2
-
 -- the source hits the cell at distance d from the left edge of line j
 unfoldable pub On : Run → Source → ℕ → ℕ → Type 0
-On run source d j = (run .interval * j + origin run source) % source .period ≡ d % source .period
+On run source d j = (run .interval * j + run .window / 2) % source .period ≡ (d + source .phase) % source .period
 
--- the rule of 01 and `On`: the offset i by its distance d, then the cell x
+-- a distance at which the source hits line 0, its phase being below its period: a walk starts from there
+abbrev pub origin : Run → Source → ℕ
+origin run source = run .window / 2 + (source .period - source .phase)
+
+pub on-origin : (run : Run) {source : Source} → ValidSource source → (d j : ℕ) → On run source d j ↔ ((run .interval * j + origin run source) % source .period ≡ d % source .period)
+unfolding On
+on-origin run {source} v d j =
+    let p = source .period in
+    let s = source .phase in
+    let t = run .interval * j + run .window / 2 in
+    let whole : s + (p - s) ≡ p = omega (arith, v .phased) in
+    let near = multiples-mod p t (d + s) in
+    let far = multiples-mod p (run .interval * j + origin run source) d in (
+      λ e. let m = near .1 e in far .0 (m .0, m .1 + 1, omega (arith, m .2)),
+      λ e. let m = far .1 e in near .0 (m .0 + 1, m .1, omega (arith, m .2)),
+    )
+
+-- the rule and `On`: the offset i by its distance d, then the cell x
 pub hits-on : (run : Run) (source : Source) (i : ℤ) (j d : ℕ) → i +ℤ pos (run .window / 2) ≡ pos d → Hits run source i j ↔ On run source d j
 unfolding Hits instant On
 hits-on run source i j d e =
     let t = run .interval * j in
     let h = run .window / 2 in
-    divides-apart (source .period) (t + h) d (pos t) i (omega (arith, parts, sum (pos t) (pos d), sum i (pos (t + h)), sum i (pos h)))
+    let s = source .phase in
+    divides-apart (source .period) (t + h) (d + s) (pos t -ℤ i) (pos s) (omega (arith, parts, neg-up i, neg-dn i, sum (pos t) (negℤ i), sum (pos t -ℤ i) (pos (d + s)), sum (pos s) (pos (t + h)), sum i (pos h)))
 
 pub hit-hits : (run : Run) (source : Source) (x : ℕ) → (isHit run source x ≡ true) ↔ Hits run source (offsetOf run x) (lineOf run x)
 unfolding isHit Hits
-hit-hits run source x = divides-test (source .period) (instant run (offsetOf run x) (lineOf run x))
+hit-hits run source x = divides-test (source .period) (instant run (offsetOf run x) (lineOf run x) -ℤ pos (source .phase))
 
 pub hit-on : (run : Run) (source : Source) (x : ℕ) → (isHit run source x ≡ true) ↔ On run source (x % run .window) (lineOf run x)
 hit-on run source x =
@@ -77,11 +91,13 @@ same-test false false e = refl
 -- on each line the remainder is hit; whole periods do not matter; after a hit the next is a period on or later
 pub on-period : (run : Run) (source : Source) (d j : ℕ) → On run source (d + source .period) j ↔ On run source d j
 unfolding On
-on-period run source d j = rw (add-mod-right d (source .period)) (λ o. o, λ o. o)
+on-period run source d j =
+    let aside : d + source .period + source .phase ≡ d + source .phase + source .period = omega arith in
+    rw (aside, add-mod-right (d + source .phase) (source .period)) (λ o. o, λ o. o)
 
 pub on-gap : (run : Run) (source : Source) (d e j : ℕ) → On run source d j → On run source e j → d < e → d + source .period ≤ e
 unfolding On
-on-gap run source d e j a b h = whole-periods (source .period) d e (sym a ∙ b) h
+on-gap run source d e j a b h = omega (arith, whole-periods (source .period) (d + source .phase) (e + source .phase) (sym a ∙ b) (omega arith))
 
 -- "For p ≥ I there is at most one hit on a line."
 pub one-on-line : (run : Run) (source : Source) (d e j : ℕ) → run .window ≤ source .period → d < run .window → e < run .window → On run source d j → On run source e j → d ≡ e

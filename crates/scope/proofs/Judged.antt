@@ -9,7 +9,7 @@ use lib.ListN.{getD}
 use mathlib.Core.List.{[], _∷_}
 use Rattle.scope.specs.Refusal.{Complaint, Tests, _when_, _andThen_, ofSource, nothing, complaint, number, Withdrawn}
 use Rattle.scope.specs.declared.Reason.{Reason}
-use Rattle.scope.specs.declared.Reason.the-variants.{Window, LineOrder, LastLine, Interval, Period, Remainder, WiderThanPeriod, Weight, Start, Room, Lists, Text, TooMany, FileBlocks, Check, Layout, Threshold, Guard, StretchRoom}
+use Rattle.scope.specs.declared.Reason.the-variants.{Window, LineOrder, LastLine, Interval, Period, Remainder, WiderThanPeriod, Weight, Start, Room, Lists, Text, TooMany, FileBlocks, Check, Layout, Threshold, Guard, StretchRoom, Phase}
 use Rattle.scope.specs.declared.Place.{Place}
 use Rattle.scope.specs.declared.Place.the-variants.{Nowhere, AtSource}
 use Rattle.scope.specs.Reply.{Said, refused, answered, reply, stored}
@@ -23,7 +23,7 @@ use Rattle.scope.specs.declared.Verdict.the-variants.{Fine, Refused}
 abbrev reasonOf : ℕ → Reason
 reasonOf n =
     getD
-    (Window ∷ Window ∷ Window ∷ Interval ∷ Period ∷ Remainder ∷ WiderThanPeriod ∷ Weight ∷ Start ∷ Room ∷ Lists ∷ Text ∷ TooMany ∷ FileBlocks ∷ Check ∷ Layout ∷ Window ∷ LineOrder ∷ LastLine ∷ Threshold ∷ Guard ∷ StretchRoom ∷ [])
+    (Window ∷ Window ∷ Window ∷ Interval ∷ Period ∷ Remainder ∷ WiderThanPeriod ∷ Weight ∷ Start ∷ Room ∷ Lists ∷ Text ∷ TooMany ∷ FileBlocks ∷ Check ∷ Layout ∷ Window ∷ LineOrder ∷ LastLine ∷ Threshold ∷ Guard ∷ StretchRoom ∷ Phase ∷ [])
     n Window
 
 told : (reason : Reason) → reasonOf (number reason) ≡ reason
@@ -46,6 +46,7 @@ told Layout = refl
 told Threshold = refl
 told Guard = refl
 told StretchRoom = refl
+told Phase = refl
 
 -- no two reasons share a number
 pub number-injective : (a b : Reason) → number a ≡ number b → a ≡ b

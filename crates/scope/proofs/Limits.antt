@@ -6,11 +6,11 @@ use native.Mathlib.Omega.{arith}
 use mathlib.Core.Path.{_≡_, refl}
 use mathlib.Core.Bool.{Bool, true, false, cond}
 use mathlib.Core.Option.{Option, some, none}
-use borrow.Author.Tests.{ltb-false, le-ltb, eqb-false, ne-eqb}
+use borrow.Author.Tests.{ltb-false, le-ltb, leb-false, lt-leb, eqb-false, ne-eqb}
 use Rattle.scope.specs.declared.Run.{Run}
 use Rattle.scope.specs.declared.Source.{Source}
 use Rattle.scope.specs.Run.{ValidRun, ValidSource, linesOf, cellsOf}
-use Rattle.scope.specs.Refusal.{Complaint, Tests, _when_, _andThen_, ofSource, orElse, placed, complaint, windowTests, lineTests, runTests, periodTests, sourceTests}
+use Rattle.scope.specs.Refusal.{Complaint, Tests, _when_, _andThen_, ofSource, orElse, placed, complaint, windowTests, lineTests, runTests, periodTests, phaseTests, sourceTests}
 use Rattle.scope.specs.declared.Reason.{Reason}
 use Rattle.scope.proofs.Judged.{Passes, sound, both}
 
@@ -68,16 +68,22 @@ valid-window-passes {window} v = both (both (sound (ne-eqb (window % 2) 1 (omega
 run-window : {run : Run} → ValidRun run → ValidWindow (run .window)
 run-window v = omega arith
 
+-- "period p: 1 to 2,147,483,647"
+pub valid-period : {period : ℕ} → Passes (periodTests period) → (1 ≤ period) × (period ≤ 2147483647)
+unfolding periodTests
+valid-period {period} p =
+    let some-ticks = eqb-false period 0 (passes-when (passes-first p)) in
+    (omega arith, ltb-false 2147483647 period (passes-when (passes-then p)))
+
 pub valid-source : {source : Source} → Passes (sourceTests source) → ValidSource source
-unfolding sourceTests periodTests
+unfolding sourceTests phaseTests
 valid-source {source} p =
-    let some-ticks = eqb-false (source .period) 0 (passes-when (passes-first p)) in
-    let high = ltb-false 2147483647 (source .period) (passes-when (passes-then p)) in
-    omega arith
+    let period = valid-period (passes-first p) in
+    record { ticks = period .0; fits = period .1; phased = leb-false (source .period) (source .phase) (passes-when (passes-then p)) }
 
 pub valid-source-passes : {source : Source} → ValidSource source → Passes (sourceTests source)
-unfolding sourceTests periodTests
-valid-source-passes {source} v = both (sound (ne-eqb (source .period) 0 (omega arith))) (sound (le-ltb _ _ (v .fits)))
+unfolding sourceTests periodTests phaseTests
+valid-source-passes {source} v = both (both (sound (ne-eqb (source .period) 0 (omega arith))) (sound (le-ltb _ _ (v .fits)))) (sound (lt-leb _ _ (v .phased)))
 
 pub valid-run : {run : Run} → Passes (runTests run) → run .interval ≤ 4294967295 → ValidRun run
 unfolding runTests lineTests

@@ -1,4 +1,4 @@
--- The tests of runs and periods say what their rows of the table say; and what the tests of numbers say. Assumes nothing.
+-- The tests of runs and sources say what their rows of the table say; and what the tests of numbers say. Assumes nothing.
 use Prim.Native.Nat.{ℕ, _%_, _≤_, _<_}
 use mathlib.Core.Path.{_≡_, ap}
 use mathlib.Core.Logic.{_↔_, _≢_}
@@ -7,8 +7,9 @@ use mathlib.Core.List.{[], _∷_}
 use lib.Dec.{ltb, leb, eqb}
 use borrow.Author.Tests.{ltb-true, lt-ltb, leb-true, le-leb, eqb-true, eq-eqb, eqb-false, ne-eqb, not-true}
 use Rattle.scope.specs.declared.Run.{Run}
-use Rattle.scope.specs.Refusal.{windowTests, lineTests, runTests, periodTests}
-use Rattle.scope.specs.Table.{_given_, BadWindow, BadPeriod, runTable}
+use Rattle.scope.specs.declared.Source.{Source}
+use Rattle.scope.specs.Refusal.{windowTests, lineTests, runTests, periodTests, phaseTests, sourceTests}
+use Rattle.scope.specs.Table.{_given_, BadWindow, BadPeriod, BadPhase, runTable}
 use Rattle.scope.proofs.Rendered.{Renders, _next_, one, either}
 
 -- ---- the tests of numbers
@@ -25,7 +26,7 @@ equal a b = (eqb-true a b, eq-eqb a b)
 pub unequal : (a b : ℕ) → (not (eqb a b) ≡ true) ↔ (a ≢ b)
 unequal a b = (λ e. eqb-false a b (not-true (eqb a b) e), λ n. ap not (ne-eqb a b n))
 
--- ---- runs and periods
+-- ---- runs and sources
 
 pub window-renders : (window : ℕ) → Renders (windowTests window) (1 given BadWindow window ∷ [])
 unfolding windowTests
@@ -42,3 +43,12 @@ run-renders run = window-renders (run .window) next lines-renders (run .first) (
 pub period-renders : (period : ℕ) → Renders (periodTests period) (4 given BadPeriod period ∷ [])
 unfolding periodTests
 period-renders period = either (one (equal period 0)) (one (below 2147483647 period))
+
+pub phase-renders : (source : Source) → Renders (phaseTests source) (22 given BadPhase source ∷ [])
+unfolding phaseTests
+phase-renders source = one (at-most (source .period) (source .phase))
+
+-- "22 .. after 4 where no weight is given"
+pub source-renders : (source : Source) → Renders (sourceTests source) (4 given BadPeriod (source .period) ∷ 22 given BadPhase source ∷ [])
+unfolding sourceTests
+source-renders source = period-renders (source .period) next phase-renders source

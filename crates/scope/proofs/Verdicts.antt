@@ -4,6 +4,7 @@ use mathlib.Core.Path.{_≡_, refl}
 use mathlib.Core.Option.{Option, some, none}
 use Rattle.scope.specs.Refusal.{Complaint, Tests, _andThen_, ofSource, orElse, placed, complaint}
 use Rattle.scope.specs.Inner.{verdict, firstOf, atSource}
+use Rattle.scope.proofs.Judged.{Passes}
 use Rattle.scope.specs.declared.Verdict.{Verdict}
 use Rattle.scope.specs.declared.Verdict.the-variants.{Fine, Refused}
 
@@ -22,6 +23,11 @@ verdict-placed k (some c) = refl
 pub verdict-then : (a b : Tests) → verdict (complaint (a andThen b)) ≡ firstOf (verdict (complaint a)) (verdict (complaint b))
 unfolding complaint
 verdict-then a b = verdict-or (complaint a) (complaint b)
+
+-- the first of which pass
+pub verdict-passed : {a : Tests} (b : Tests) → Passes a → verdict (complaint b) ≡ verdict (complaint (a andThen b))
+unfolding complaint
+verdict-passed b p = rw (p .is)
 
 pub verdict-source : (k : ℕ) (tests : Tests) → verdict (complaint (ofSource k tests)) ≡ atSource k (verdict (complaint tests))
 unfolding complaint

@@ -1,4 +1,4 @@
--- Document 01, "The measurement in numbers": when a source hits a cell, and the list of the cells that it hits.
+-- Document 01, "The measurement in numbers", and request E5: when a source hits a cell, and the list of the cells that it hits.
 use Prim.Native.Nat.{ℕ, zero, suc, _-_, _*_, _%_, _∣_}
 use mathlib.Core.Bool.{Bool, cond}
 use mathlib.Core.List.{List, [], _∷_}
@@ -12,13 +12,13 @@ use Rattle.scope.specs.Run.{cellsOf, lineOf, offsetOf}
 unfoldable pub instant : Run → ℤ → ℕ → ℤ
 instant run i j = pos (run .interval * j) -ℤ i
 
--- "Hit: source p hits cell (i, j) exactly when p divides T·j - i."
+-- "It hits (i, j) exactly when p divides T·j - i - s" (E5): that is an integer, which may be below 0, and p divides its size.
 unfoldable pub Hits : Run → Source → ℤ → ℕ → Type 0
-Hits run source i j = source .period ∣ natAbs (instant run i j)
+Hits run source i j = source .period ∣ natAbs (instant run i j -ℤ pos (source .phase))
 
 -- The same of the cell with number x, as a test: the remainder of the division is 0.
 unfoldable pub isHit : Run → Source → ℕ → Bool
-isHit run source x = eqb (natAbs (instant run (offsetOf run x) (lineOf run x)) % source .period) 0
+isHit run source x = eqb (natAbs (instant run (offsetOf run x) (lineOf run x) -ℤ pos (source .phase)) % source .period) 0
 
 -- The hit cells among the n cells from x on, in rising order.
 unfoldable pub hitsAmong : Run → Source → ℕ → ℕ → List ℕ

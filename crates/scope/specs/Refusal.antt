@@ -1,20 +1,20 @@
--- Document 01, "The refusal numbers", and requests E1 and E3: why a call is refused, and where; and the tests that runs and sources pass in
--- every call.
+-- Document 01, "The refusal numbers", and requests E1, E3 and E5: why a call is refused, and where; and the tests that runs and sources pass
+-- in every call.
 use Prim.Native.Nat.{ℕ, _%_}
 use mathlib.Core.Path.{_≡_}
 use mathlib.Core.Logic.{_⊎_}
 use mathlib.Core.Bool.{Bool, cond}
 use mathlib.Core.Option.{Option, some, none}
-use lib.Dec.{ltb, eqb}
+use lib.Dec.{ltb, leb, eqb}
 use Rattle.scope.specs.declared.Run.{Run}
 use Rattle.scope.specs.declared.Source.{Source}
 use Rattle.scope.specs.declared.Reason.{Reason}
-use Rattle.scope.specs.declared.Reason.the-variants.{Window, LineOrder, LastLine, Interval, Period, Remainder, WiderThanPeriod, Weight, Start, Room, Lists, Text, TooMany, FileBlocks, Check, Layout, Threshold, Guard, StretchRoom}
+use Rattle.scope.specs.declared.Reason.the-variants.{Window, LineOrder, LastLine, Interval, Period, Remainder, WiderThanPeriod, Weight, Start, Room, Lists, Text, TooMany, FileBlocks, Check, Layout, Threshold, Guard, StretchRoom, Phase}
 use Rattle.scope.specs.declared.Place.{Place}
 use Rattle.scope.specs.declared.Place.the-variants.{Nowhere, AtSource}
 
 -- The number of each reason. In quotes above it: when it is given, from 01's table, for 17 and 18 from request E1: "Split it: ..
--- last line before the first, last line above the limit"; "in the place of 2"; and for 19 to 21 from request E3.
+-- last line before the first, last line above the limit"; "in the place of 2"; for 19 to 21 from request E3; and for 22 from request E5.
 abbrev pub number : Reason → ℕ
 -- "window odd, below 2 or above 4,096"
 number Window = 1
@@ -36,7 +36,7 @@ number Weight = 7
 number Start = 8
 -- "listing room 0; map or file room not of the exact length"
 number Room = 9
--- "period and weight lists of unequal length"
+-- "period and weight lists of unequal length"; "10 covers the third list" (E5)
 number Lists = 10
 -- "text not of the form below"
 number Text = 11
@@ -54,6 +54,8 @@ number Threshold = 19
 number Guard = 20
 -- "exactly when the room holds fewer stretches than there are"
 number StretchRoom = 21
+-- "phase not below period"
+number Phase = 22
 
 -- "2, which is no longer given" (E1); "16 is shown never to occur and is taken out" (E2).
 abbrev pub Withdrawn : ℕ → Type 0
@@ -120,9 +122,15 @@ periodTests period =
     Period when eqb period 0 andThen
     Period when ltb 2147483647 period
 
--- A source's tests where no weight is given.
+-- "22 phase not below period" (E5).
+unfoldable pub phaseTests : Source → Tests
+phaseTests source = Phase when leb (source .period) (source .phase)
+
+-- A source's tests where no weight is given: "22 .. after 4" (E5).
 unfoldable pub sourceTests : Source → Tests
-sourceTests source = periodTests (source .period)
+sourceTests source =
+    periodTests (source .period) andThen
+    phaseTests source
 
 -- "7: weight 0 or above 255", of any ceiling c.
 unfoldable pub weightTests : ℕ → ℕ → Tests

@@ -1,4 +1,4 @@
--- Document 01, "The measurement in numbers": a run, its lines and its cells.
+-- Document 01, "The measurement in numbers", and request E5: a run, its lines and its cells; what is within the limits.
 use Prim.Native.Nat.{ℕ, suc, _+_, _-_, _*_, _/_, _%_, _≤_, _<_}
 use mathlib.Core.Path.{_≡_}
 use mathlib.Core.Logic.{_⊎_}
@@ -25,10 +25,11 @@ pub record ValidRun (run : Run) : Type 0 where
   pub ticks : 1 ≤ run .interval
   pub fits : run .interval ≤ 4294967295
 
--- The same table: "period p: 1 to 2,147,483,647".
+-- The same table: "period p: 1 to 2,147,483,647"; and "its phase s, below its period" (E5).
 pub record ValidSource (source : Source) : Type 0 where
   pub ticks : 1 ≤ source .period
   pub fits : source .period ≤ 2147483647
+  pub phased : source .phase < source .period
 
 -- The same table: "weight: 1 to 255"; and "the smaller of 255 and old value + weights". No weight and no cell of a map is above it.
 abbrev pub ceiling : ℕ

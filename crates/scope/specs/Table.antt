@@ -1,9 +1,11 @@
--- Document 01, "The refusal numbers", and request E1, as propositions: what a table of rows says, and the rows of runs and periods.
+-- Document 01, "The refusal numbers", and requests E1 and E5, as propositions: what a table of rows says, the rows of runs, and
+-- what is wrong with a source.
 use Prim.Native.Nat.{ℕ, _%_, _≤_, _<_}
 use mathlib.Core.Path.{_≡_}
 use mathlib.Core.Logic.{_↔_, _⊎_}
 use mathlib.Core.List.{List, [], _∷_}
 use Rattle.scope.specs.declared.Run.{Run}
+use Rattle.scope.specs.declared.Source.{Source}
 use Rattle.scope.specs.declared.Place.{Place}
 use Rattle.scope.specs.declared.Place.the-variants.{Nowhere, AtSource}
 
@@ -52,6 +54,10 @@ BadWindow window = ((window % 2 ≡ 1) ⊎ (window < 2)) ⊎ (4096 < window)
 -- "4: period 0 or above 2,147,483,647".
 abbrev pub BadPeriod : ℕ → Type 0
 BadPeriod period = (period ≡ 0) ⊎ (2147483647 < period)
+
+-- "22 phase not below period" (E5).
+abbrev pub BadPhase : Source → Type 0
+BadPhase source = source .period ≤ source .phase
 
 -- The rows of a run, in every call that has one: "1, 2, 3", and "17, 18 in the order named, in the place of 2" (E1): "last line
 -- before the first, last line above the limit"; "16 is .. taken out" (E2). "3: interval 0".

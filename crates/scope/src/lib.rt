@@ -4,7 +4,7 @@ ghost use mathlib.Core.Path.{_≡_};
 ghost use Prim.Native.Nat.{_≤_};
 ghost use Rattle.scope.specs.Run.{ValidRun, cellsOf, shiftOf, toRun};
 ghost use Rattle.scope.specs.Inner.{IsBlock, toBlock, firstOf, atSource, verdict};
-ghost use Rattle.scope.specs.Refusal.{number, complaint, windowTests, lineTests, runTests, periodTests, sourceTests};
+ghost use Rattle.scope.specs.Refusal.{number, complaint, windowTests, lineTests, runTests, periodTests, phaseTests, sourceTests};
 
 // What a weight, and a cell of a map, is at most: `ceiling` of the specs. A cell is as wide as this number.
 pub const CEILING: u8 = 255;
@@ -17,9 +17,10 @@ pub struct Run {
     pub last: u32,
 }
 
-// A source, less its weight: it has an edge at every multiple of its period.
+// A source, less its weight: it has an edge at its phase, and whole periods before and after it.
 pub struct Source {
     pub period: u32,
+    pub phase: u32,
 }
 
 // A cell number of the run that a call is about; where the call is about a block, that block is its run.
@@ -50,7 +51,7 @@ pub enum Reason {
     Start,
     // The listing room is empty, or the map or the file room is not of the exact length.
     Room,
-    // The lists of periods and of weights are of unequal length.
+    // The lists of periods, of weights and of phases are not all of one length.
     Lists,
     // The text is not of the form.
     Text,
@@ -68,6 +69,8 @@ pub enum Reason {
     Guard,
     // The room holds fewer stretches than there are.
     StretchRoom,
+    // The phase is not below the period.
+    Phase,
 }
 
 // What a refusal concerns.
@@ -110,6 +113,7 @@ pub fn number_of(reason: Reason) -> u8
         Reason::Threshold => 19,
         Reason::Guard => 20,
         Reason::StretchRoom => 21,
+        Reason::Phase => 22,
     }
 }
 
@@ -191,11 +195,23 @@ pub fn judge_period(period: u32) -> Verdict
     Verdict::Fine
 }
 
-// Inner step. What the table says of a source, whatever its weight.
+// Inner step. What the table says of a source's phase.
+pub fn judge_phase(source: Source) -> Verdict
+    ensures { λ r. ⌜ r ≡ verdict (complaint (phaseTests source)) ⌝ }
+{
+    if source.period <= source.phase {
+        return Verdict::Refused(Reason::Phase, Place::Nowhere);
+    }
+    Verdict::Fine
+}
+
+// Inner step. What the table says of a source where no weight is given: of its period first, then of its phase.
 pub fn judge_source(source: Source) -> Verdict
     ensures { λ r. ⌜ r ≡ verdict (complaint (sourceTests source)) ⌝ }
 {
-    judge_period(source.period)
+    let of_period = judge_period(source.period);
+    let of_phase = judge_phase(source);
+    first_of(of_period, of_phase)
 }
 
 // Inner step. How many cells a run within the limits has: at most 4,096 on each of its lines.

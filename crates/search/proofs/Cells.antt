@@ -6,8 +6,8 @@ use native.Mathlib.Omega.{arith}
 use mathlib.Core.Path.{_≡_, sym, subst, ap, _∙_}
 use mathlib.Core.Logic.{_↔_, ⊎-elim}
 use mathlib.Core.Bool.{true, false}
-use Rattle.lattice.proofs.Congruence.{split, cong-iff-mod, cong-sym, cong-trans, cong-below}
-use Rattle.lattice.proofs.Differences.{On, Go, on-go, go-mod}
+use Rattle.lattice.proofs.Congruence.{split, cong-iff-mod, cong-below}
+use Rattle.lattice.proofs.Differences.{On, Go, on-go, on-cong, go-mod}
 use Rattle.lattice.proofs.Row.{Leftmost, on-line, leftmost}
 use Rattle.scope.specs.declared.Run.{Run}
 use Rattle.scope.specs.declared.Source.{Source}
@@ -32,12 +32,12 @@ rows-le {k} {l} {I} h le = ⊎-elim (λ lt. absurd (omega (arith, mul-le-mul-rig
 
 -- the source has a point at distance d on line j
 abbrev pub Points : Run → Source → ℕ → ℕ → Type 0
-Points run source d j = On (source .period) (run .interval) (origin run source) d j
+Points run source d j = On (source .period) (run .interval) (run .window / 2) (source .phase) d j
 
 pub on-points : (run : Run) (source : Source) (d j : ℕ) → scope.On run source d j ↔ Points run source d j
 unfolding scope.On
 on-points run source d j =
-    let i = cong-iff-mod (source .period) d (run .interval * j + origin run source) in
+    let i = cong-iff-mod (source .period) (d + source .phase) (run .interval * j + run .window / 2) in
     (λ e. record { cong = i .1 (sym e) }, λ o. sym (i .0 (o .cong)))
 
 -- the cell at distance d, k lines after the first, is hit exactly if the source has a point there
@@ -144,12 +144,12 @@ module _ {run : Run} (v : ValidRun run) (source : Source) where
         let before = rows-le {k = l} {l = to .line - run .first} (s .first .inside) (omega arith) in
         let k : l ≡ to .line - run .first = omega (arith, w .0) in
         let e< : e < to .distance = omega (arith, ap (λ x. x * run .window) k) in
-        let alike = cong-below (cong-trans (o′ .cong) (cong-sym (subst (λ x. Points run source (to .distance) (run .first + x)) (sym k) on .cong))) (omega arith) (omega arith) in
+        let alike = cong-below (on-cong o′ (subst (λ x. Points run source (to .distance) (run .first + x)) (sym k) on)) (omega arith) (omega arith) in
         omega arith)
 
   -- ---- the first hit on the rest of a line
 
-  module _ (x : ℕ) {d : ℕ} (row : Leftmost (source .period) (run .interval) (origin run source) (run .first + x / run .window) (x % run .window) d) where
+  module _ (x : ℕ) {d : ℕ} (row : Leftmost (source .period) (run .interval) (run .window / 2) (source .phase) (run .first + x / run .window) (x % run .window) d) where
     -- a point of the same line at x or right of it
     rest : (l e : ℕ) → e < run .window → x ≤ l * run .window + e → l ≤ x / run .window → Points run source e (run .first + l) → (l ≡ x / run .window) × (d ≤ e)
     rest l e h le up o =
@@ -193,7 +193,7 @@ module _ (run : Run) {source : Source} (s : ValidSource source) (line : ℕ) {d 
   distance-low = rw is (mod-lt (run .interval * line + origin run source) (s .ticks))
 
   distance-point : Points run source d line
-  distance-point = rw is (on-line (source .period) (run .interval) (origin run source) line)
+  distance-point = rw is (on-line (run .interval) (run .window / 2) line (omega (arith, s .phased)))
 
   -- on the next line
   pub distance-next : (d + run .interval % source .period) % source .period ≡ (run .interval * (line + 1) + origin run source) % source .period
@@ -221,7 +221,7 @@ module _ {run : Run} (v : ValidRun run) {x : ℕ} (inside : x < cellsOf run) whe
   own-row = omega (arith, div-add-mod' x (run .window))
 
   module _ {source : Source} (s : ValidSource source) {d to : ℕ} (is : d ≡ (run .interval * (run .first + x / run .window) + origin run source) % source .period) (h : FirstRight d (x % run .window) (source .period) to) where
-    row : Leftmost (source .period) (run .interval) (origin run source) (run .first + x / run .window) (x % run .window) to
+    row : Leftmost (source .period) (run .interval) (run .window / 2) (source .phase) (run .first + x / run .window) (x % run .window) to
     row =
         let e = h .is in
         let r = h .right in

@@ -90,11 +90,16 @@ fn seek(first: Vector, second: Vector, start: Point, window: u64, end: u64) -> F
 
 // Inner step. How far right of the window's left edge the source's first point on a line is; it may lie past the window.
 // Every other step goes from one point of the source to another, so that where its points lie is said here alone.
+// The phase leads to the left; what it lacks to a period leads to the right and to the same points.
 pub fn distance(run: Run, source: Source, line: u64) -> u64
     requires { ⌜ ValidRun run × ValidSource source × (line ≤ 16777217) ⌝ }
     ensures { λ r. ⌜ r ≡ (run .interval * line + origin run source) % source .period ⌝ }
 {
-    (run.interval as u64 * line + run.window as u64 / 2) % source.period as u64
+    let period = source.period as u64;
+    let phase = source.phase as u64;
+    let lacking = period - phase;
+    let unphased = run.interval as u64 * line + run.window as u64 / 2;
+    (unphased + lacking) % period
 }
 
 // Inner step. The first point within the window from a point of the source on, on a line up to the run's last: the search

@@ -7,9 +7,9 @@ use Prim.Native.Nat.{ℕ, suc, _+_, _*_, _/_, _%_, _∣_}
 use native.Mathlib.Omega.{arith}
 use native.Mathlib.Nat.{dvd-mul-left, dvd-add-iff-left, dvd-iff-mod-eq-zero, div-mul-cancel, mod-add-div', add-mul-mod-self-right}
 use lib.Dec.{eqb}
-use lib.IntN.{ℤ, pos, negsuc, negℤ, natAbs, _+ℤ_, _-ℤ_}
+use lib.IntN.{ℤ, pos, negsuc, negℤ, natAbs, _+ℤ_, _-ℤ_, _*ℤ_}
 use borrow.Author.Tests.{eqb-true, eq-eqb}
-use Rattle.signed.proofs.Parts.{up, dn, parts, sum, neg-up, neg-dn}
+use Rattle.signed.proofs.Parts.{up, dn, parts, sum, product, neg-up, neg-dn}
 use Rattle.signed.proofs.Difference.{diff, diff-parts}
 
 -- multiples of p lead from a and from b to one number
@@ -28,6 +28,13 @@ left-over p n x y e = dvd-add-iff-left p (dvd-mul-left p x) .1 (rw e (dvd-mul-le
 of-parts : (p : ℕ) (z : ℤ) → Multiples p (up z) (dn z) → p ∣ natAbs z
 of-parts p (pos n) m = left-over p n (m .0) (m .1) (omega arith)
 of-parts p (negsuc n) m = left-over p (suc n) (m .1) (m .0) (omega arith)
+
+-- and exactly if z is a whole multiple of p, one below 0 too
+pub divides-turns : (p : ℕ) (z : ℤ) → (p ∣ natAbs z) ↔ ((k : ℤ) × (z ≡ k *ℤ pos p))
+divides-turns p z = (
+  λ h. let m = to-parts p z h in let k = diff (m .1) (m .0) in (k, omega (arith, parts, m .2, product k (pos p), ap (λ (n : ℕ). n * p) (diff-parts (m .1) (m .0)))),
+  λ t. of-parts p z (dn (t .0), up (t .0), omega (arith, parts, t .1, product (t .0) (pos p))),
+)
 
 divides-multiples : (p a b : ℕ) → (p ∣ natAbs (diff a b)) ↔ Multiples p a b
 divides-multiples p a b = (

@@ -1,96 +1,93 @@
--- The tests of a list of sources say what its table says, row by row; and what that is of two lists. Assumes nothing.
+-- The tests of a list of sources say what its table says, row by row; and what that is of three lists of one length. Assumes
+-- nothing.
 use Prim.Native.Nat.{ℕ, zero, suc, _+_, _<_}
 use native.Mathlib.Nat.{add-zero}
 use native.Mathlib.Omega.{arith}
 use mathlib.Core.Path.{_≡_, sym, subst}
 use mathlib.Core.Logic.{_↔_, _⊎_, inl, inr}
 use mathlib.Core.List.{List, [], _∷_}
-use lib.ListN.{length, getD}
+use lib.ListN.{length}
 use Rattle.scope.specs.Run.{ceiling}
 use Rattle.scope.specs.Refusal.{weightTests}
 use Rattle.scope.specs.declared.Place.{Place}
-use Rattle.scope.specs.Table.{_given_, _at_given_, Says, BadPeriod}
-use Rattle.scope.proofs.Rendered.{Renders, _next_, one, either, no-rows, of-source}
-use Rattle.scope.proofs.Table.{below, equal, period-renders}
-use Rattle.sources.specs.Entry.{Entry, entriesOf, entryTests, listTests}
-use Rattle.sources.specs.Table.{BadWeight, sourcesTable, AtFault}
+use Rattle.scope.specs.Table.{_given_, Says, Silent}
+use Rattle.scope.proofs.Rendered.{Renders, _next_, one, either, no-rows, of-source, says-split}
+use Rattle.scope.proofs.Table.{below, equal, unequal, period-renders, phase-renders}
+use Rattle.sources.specs.Entry.{Entry, entryWith, entriesOf, entryTests, lengthTests, listTests, sourceListsTests}
+use Rattle.sources.specs.Lists.{OneLength}
+use Rattle.sources.specs.Table.{BadWeight, sourceTable, sourcesTable, sourceListsTable, entryAfter, AtFault}
 
 weight-renders : (weight : ℕ) → Renders (weightTests ceiling weight) (7 given BadWeight weight ∷ [])
 unfolding weightTests
 weight-renders weight = either (one (equal weight 0)) (one (below ceiling weight))
 
--- "source by source 4 before 7", the first of them at place k
+-- "source by source", each 4 before 7 and that before 22, the first of them at place k
 pub sources-renders : (k : ℕ) (entries : List Entry) → Renders (listTests ceiling k entries) (sourcesTable k entries)
 unfolding listTests entryTests
 sources-renders k [] = no-rows
 sources-renders k (entry ∷ entries) =
-    of-source (period-renders (entry .source .period) next weight-renders (entry .weight)) next sources-renders (suc k) entries
+    of-source (period-renders (entry .source .period) next weight-renders (entry .weight) next phase-renders (entry .source)) next
+    sources-renders (suc k) entries
+
+-- "10, then source by source"
+pub source-lists-renders : (periods weights phases : List ℕ) → Renders (sourceListsTests ceiling periods weights phases) (sourceListsTable periods weights phases)
+unfolding sourceListsTests lengthTests
+source-lists-renders periods weights phases =
+    either (one (unequal (length periods) (length weights))) (one (unequal (length periods) (length phases))) next
+    sources-renders 1 (entriesOf periods weights phases)
 
 -- ---- the first source at fault
 
--- what the source at place k breaks, by its period and its weight
-abbrev Breaks : (k p w n : ℕ) → Place → Type 0
-Breaks k p w n place = Says (4 at k given BadPeriod p ∷ 7 at k given BadWeight w ∷ []) n place
-
-at-place : {k j p w n : ℕ} {place : Place} → k ≡ j → Breaks k p w n place → Breaks j p w n place
-at-place {p = p} {w} {n} {place} e b = subst (λ k. Breaks k p w n place) e b
+-- what the source at place k breaks
+at-place : (e : Entry) {k j n : ℕ} {place : Place} → k ≡ j → Says (sourceTable k e) n place → Says (sourceTable j e) n place
+at-place e {n = n} {place} same s = subst (λ k. Says (sourceTable k e) n place) same s
 
 -- the first source at fault, if the first of the lists is at place k
-record FaultFrom (k : ℕ) (periods weights : List ℕ) (n : ℕ) (place : Place) : Type 0 where
+record FaultFrom (k : ℕ) (periods weights phases : List ℕ) (n : ℕ) (place : Place) : Type 0 where
   before : ℕ
   inside : before < length periods
-  least : (j : ℕ) → j < before → BadPeriod (getD periods j 0) ⊎ BadWeight (getD weights j 0) → ⊥
-  breaks : Breaks (k + before) (getD periods before 0) (getD weights before 0) n place
+  least : (j : ℕ) → j < before → Silent (sourceTable (suc j) (entryAfter periods weights phases j))
+  breaks : Says (sourceTable (k + before) (entryAfter periods weights phases before)) n place
 
-module _ (k p : ℕ) (periods : List ℕ) (w : ℕ) (weights : List ℕ) (n : ℕ) (place : Place) (rest : Says (sourcesTable (suc k) (entriesOf periods weights)) n place ↔ FaultFrom (suc k) periods weights n place) where
+module _ (k p : ℕ) (periods : List ℕ) (w : ℕ) (weights : List ℕ) (s : ℕ) (phases : List ℕ) (n : ℕ) (place : Place) (rest : Says (sourcesTable (suc k) (entriesOf periods weights phases)) n place ↔ FaultFrom (suc k) periods weights phases n place) where
+  abbrev own : Entry
+  own = entryWith p w s
+
   -- none before the one at fault behind it, the first being within the limits
-  none-before : (BadPeriod p → ⊥) → (BadWeight w → ⊥) → (f : FaultFrom (suc k) periods weights n place) (j : ℕ) → j < suc (f .before) → BadPeriod (getD (p ∷ periods) j 0) ⊎ BadWeight (getD (w ∷ weights) j 0) → ⊥
-  none-before a b f zero l (inl x) = a x
-  none-before a b f zero l (inr y) = b y
-  none-before a b f (suc j) l z = f .least j (omega arith) z
+  none-before : Silent (sourceTable k own) → (f : FaultFrom (suc k) periods weights phases n place) (j : ℕ) → j < suc (f .before) → Silent (sourceTable (suc j) (entryAfter (p ∷ periods) (w ∷ weights) (s ∷ phases) j))
+  none-before a f zero l = a
+  none-before a f (suc j) l = f .least j (omega arith)
 
-  -- it is the first of all
-  foremost : Breaks k p w n place → FaultFrom k (p ∷ periods) (w ∷ weights) n place
-  foremost b = record { before = 0; inside = omega arith; least = λ j l z. omega arith; breaks = at-place (sym (add-zero k)) b }
-
-  -- what the table says is broken by the first source at fault
-  found : Says (sourcesTable k (entriesOf (p ∷ periods) (w ∷ weights))) n place → FaultFrom k (p ∷ periods) (w ∷ weights) n place
-  unfolding entriesOf
-  found (inl h) = foremost (inl h)
-  found (inr (a, inl h)) = foremost (inr (a, inl h))
-  found (inr (a, inr (b, h))) =
+  -- what the table says is broken by the first source at fault: it is the first of all, or one behind it
+  found : Says (sourceTable k own) n place ⊎ (Silent (sourceTable k own) × Says (sourcesTable (suc k) (entriesOf periods weights phases)) n place) → FaultFrom k (p ∷ periods) (w ∷ weights) (s ∷ phases) n place
+  found (inl b) = record { before = 0; inside = omega arith; least = λ j l. absurd (omega arith); breaks = at-place own (sym (add-zero k)) b }
+  found (inr (a, h)) =
       let f = rest .0 h in
-      record { before = suc (f .before); inside = omega (arith, f .inside); least = none-before a b f; breaks = at-place (omega arith) (f .breaks) }
+      record { before = suc (f .before); inside = omega (arith, f .inside); least = none-before a f; breaks = at-place (entryAfter periods weights phases (f .before)) (omega arith) (f .breaks) }
 
-  -- and back, if that is the first of all
-  here : Breaks k p w n place → Says (sourcesTable k (entriesOf (p ∷ periods) (w ∷ weights))) n place
-  unfolding entriesOf
-  here (inl h) = inl h
-  here (inr (a, inl h)) = inr (a, inl h)
-  here (inr (a, inr h)) = absurd (h .1)
-
-  -- or one with m before it
-  told : (m : ℕ) → m < length (p ∷ periods) → ((j : ℕ) → j < m → BadPeriod (getD (p ∷ periods) j 0) ⊎ BadWeight (getD (w ∷ weights) j 0) → ⊥) → Breaks (k + m) (getD (p ∷ periods) m 0) (getD (w ∷ weights) m 0) n place → Says (sourcesTable k (entriesOf (p ∷ periods) (w ∷ weights))) n place
-  unfolding entriesOf
-  told zero l least breaks = here (at-place (add-zero k) breaks)
+  -- and back, with m before it
+  told : (m : ℕ) → m < length (p ∷ periods) → ((j : ℕ) → j < m → Silent (sourceTable (suc j) (entryAfter (p ∷ periods) (w ∷ weights) (s ∷ phases) j))) → Says (sourceTable (k + m) (entryAfter (p ∷ periods) (w ∷ weights) (s ∷ phases) m)) n place → Says (sourceTable k own) n place ⊎ (Silent (sourceTable k own) × Says (sourcesTable (suc k) (entriesOf periods weights phases)) n place)
+  told zero l least breaks = inl (at-place own (add-zero k) breaks)
   told (suc m) l least breaks =
-      let none-here = least 0 (omega arith) in
-      inr (λ a. none-here (inl a), inr (λ b. none-here (inr b), rest .1 (record { before = m; inside = omega arith; least = λ j h. least (suc j) (omega arith); breaks = at-place (omega arith) breaks })))
+      inr (least 0 (omega arith), rest .1 (record { before = m; inside = omega arith; least = λ j h. least (suc j) (omega arith); breaks = at-place (entryAfter periods weights phases m) (omega arith) breaks }))
 
-fault-from : (k : ℕ) (periods weights : List ℕ) → length periods ≡ length weights → (n : ℕ) (place : Place) → Says (sourcesTable k (entriesOf periods weights)) n place ↔ FaultFrom k periods weights n place
+fault-from : (k : ℕ) (periods weights phases : List ℕ) → OneLength periods weights phases → (n : ℕ) (place : Place) → Says (sourcesTable k (entriesOf periods weights phases)) n place ↔ FaultFrom k periods weights phases n place
 unfolding entriesOf
-fault-from k [] [] e n place = (λ s. absurd s, λ f. absurd (omega (arith, f .inside)))
-fault-from k [] (w ∷ weights) e n place = absurd (omega arith)
-fault-from k (p ∷ periods) [] e n place = absurd (omega arith)
-fault-from k (p ∷ periods) (w ∷ weights) e n place =
-    let rest = fault-from (suc k) periods weights (omega arith) n place in
-    (found k p periods w weights n place rest, λ f. told k p periods w weights n place rest (f .before) (f .inside) (f .least) (f .breaks))
+fault-from k [] weights phases e n place = (λ s. absurd s, λ f. absurd (omega (arith, f .inside)))
+fault-from k (p ∷ periods) [] phases e n place = absurd (omega (arith, e .0))
+fault-from k (p ∷ periods) (w ∷ weights) [] e n place = absurd (omega (arith, e .1))
+fault-from k (p ∷ periods) (w ∷ weights) (s ∷ phases) e n place =
+    let rest = fault-from (suc k) periods weights phases (omega (arith, e .0), omega (arith, e .1)) n place in
+    let parted = says-split (sourceTable k (entryWith p w s)) (sourcesTable (suc k) (entriesOf periods weights phases)) n place in (
+      λ h. found k p periods w weights s phases n place rest (parted .0 h),
+      λ f. parted .1 (told k p periods w weights s phases n place rest (f .before) (f .inside) (f .least) (f .breaks)),
+    )
 
--- "source by source 4 before 7": what the table says of two lists is what is broken by the first source that breaks 4 or 7, at its
--- place; it is 4 if that source breaks 4
-pub sources-at-fault : (periods weights : List ℕ) → length periods ≡ length weights → (n : ℕ) (place : Place) → Says (sourcesTable 1 (entriesOf periods weights)) n place ↔ AtFault periods weights n place
-sources-at-fault periods weights e n place =
-    let whole = fault-from 1 periods weights e n place in (
-      λ s. let f = whole .0 s in record { before = f .before; inside = f .inside; least = f .least; breaks = at-place (omega arith) (f .breaks) },
-      λ f. whole .1 (record { before = f .before; inside = f .inside; least = f .least; breaks = at-place (omega arith) (f .breaks) }),
+-- "source by source": what the table says of three lists is what is broken by the first source that breaks 4, 7 or 22, at its place; it
+-- is the first of these that the source breaks
+pub sources-at-fault : (periods weights phases : List ℕ) → OneLength periods weights phases → (n : ℕ) (place : Place) → Says (sourcesTable 1 (entriesOf periods weights phases)) n place ↔ AtFault periods weights phases n place
+sources-at-fault periods weights phases e n place =
+    let whole = fault-from 1 periods weights phases e n place in (
+      λ s. let f = whole .0 s in record { before = f .before; inside = f .inside; least = f .least; breaks = at-place _ (omega arith) (f .breaks) },
+      λ f. whole .1 (record { before = f .before; inside = f .inside; least = f .least; breaks = at-place _ (omega arith) (f .breaks) }),
     )

@@ -1,8 +1,14 @@
--- Document 01: "a list of periods, a list of weights", of list entries.
+-- Document 01: "a list of periods, a list of weights", and request E5: "phases beside periods and weights", of list entries.
 use Prim.Native.Nat.{ℕ, _≤_}
+use mathlib.Core.Path.{_≡_}
 use mathlib.Core.List.{List, [], _∷_}
+use lib.ListN.{length}
 use Rattle.scope.specs.Run.{ValidSource}
 use Rattle.sources.specs.Entry.{Entry}
+
+-- "10 covers the third list" (E5): the three lists are of one length.
+abbrev pub OneLength : (periods weights phases : List ℕ) → Type 0
+OneLength periods weights phases = (length periods ≡ length weights) × (length periods ≡ length phases)
 
 -- The list of periods of some entries.
 unfoldable pub periodsOf : List Entry → List ℕ
@@ -14,7 +20,12 @@ unfoldable pub weightsOf : List Entry → List ℕ
 weightsOf [] = []
 weightsOf (entry ∷ entries) = entry .weight ∷ weightsOf entries
 
--- The table of ranges, of one entry: "weight: 1 to 255", of any ceiling c.
+-- The list of phases of some entries.
+unfoldable pub phasesOf : List Entry → List ℕ
+phasesOf [] = []
+phasesOf (entry ∷ entries) = entry .source .phase ∷ phasesOf entries
+
+-- The table of ranges, of one entry: those of its source, and "weight: 1 to 255", of any ceiling c.
 pub record ValidEntry (c : ℕ) (e : Entry) : Type 0 where
   pub source : ValidSource (e .source)
   pub some : 1 ≤ e .weight

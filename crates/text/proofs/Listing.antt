@@ -5,17 +5,14 @@ use native.Mathlib.Omega.{arith}
 use mathlib.Core.Path.{_≡_, refl, sym, ap, _∙_}
 use mathlib.Core.List.{List, [], _∷_, _++_, append-assoc, append-nil}
 use lib.ListN.{length, drop, set, length-append, length-drop, length-set, drop-of-length-le}
-use Rattle.rooms.specs.Lists.{UpTo}
-use Rattle.rooms.proofs.Lists.{up-to, up-to-none, up-to-cons}
-use Rattle.decimal.specs.Digits.{largest}
 use Rattle.words.specs.Line.{line}
-use Rattle.words.specs.Inner.{Spelled, Line, NoLine}
+use Rattle.words.specs.Inner.{Spelled}
 use Rattle.words.proofs.Lines.{spelled-none, spelled-append, spelled-within, line-split}
 use Rattle.sources.specs.Entry.{Entry}
-use Rattle.sources.specs.Lists.{periodsOf, weightsOf}
-use Rattle.sources.proofs.Entries.{entry, periods-length, weights-length, periods-append, weights-append}
-use Rattle.text.specs.Form.{srcWord, srcNumbers, srcLines}
-use Rattle.text.specs.Inner.{SourceStored, ValidLines, Lines, storedIn, LinesListed, NoLines}
+use Rattle.sources.specs.Lists.{periodsOf, weightsOf, phasesOf}
+use Rattle.sources.proofs.Entries.{periods-length, weights-length, phases-length, periods-append, weights-append, phases-append}
+use Rattle.text.specs.Form.{srcWord, SrcLine, withPhase, withoutPhase, srcNumbers, meant, srcLines, sourcesMeant, SrcsSmall}
+use Rattle.text.specs.Inner.{SrcStands, NoSrc, SourceStored, Lines, storedIn, LinesListed, NoLines}
 
 -- ---- numbers stored from the front of a room on
 
@@ -39,147 +36,146 @@ stored-fits [] room h = stored-none room
 stored-fits (n ∷ numbers) [] h = absurd (omega arith)
 stored-fits (n ∷ numbers) (old ∷ room) h = ap (λ l. n ∷ l) (stored-fits numbers room (omega arith))
 
+-- one number more of each entry, behind those of the entries before: `of` takes one number of each
+stored-behind : (of : List Entry → List ℕ) → ((a b : List Entry) → of (a ++ b) ≡ of a ++ of b) → ((es : List Entry) → length (of es) ≡ length es)
+    → (front : List Entry) (e : Entry) (room : List ℕ) {count v : ℕ} {room′ room″ : List ℕ} → length front ≡ count → of (e ∷ []) ≡ v ∷ [] → room′ ≡ storedIn (of front) room → room″ ≡ set room′ count v
+    → room″ ≡ storedIn (of (front ++ (e ∷ []))) room
+stored-behind of appends long front e room {v = v} counted one so-far more =
+    more ∙ rw (so-far, appends front (e ∷ []), one, ← counted, ← long front) (stored-more (of front) room v)
+
 -- ---- lines
 
-src-lines-append : (a b : List Entry) → srcLines (a ++ b) ≡ srcLines a ++ srcLines b
+src-lines-append : (a b : List SrcLine) → srcLines (a ++ b) ≡ srcLines a ++ srcLines b
 unfolding srcLines
 src-lines-append [] b = refl
-src-lines-append (e ∷ a) b =
-    ap (λ l. line srcWord (srcNumbers e) ++ l) (src-lines-append a b) ∙ sym (append-assoc (line srcWord (srcNumbers e)) (srcLines a) (srcLines b))
+src-lines-append (src ∷ a) b =
+    ap (λ l. line srcWord (srcNumbers src) ++ l) (src-lines-append a b) ∙ sym (append-assoc (line srcWord (srcNumbers src)) (srcLines a) (srcLines b))
 
--- ---- their numbers
+meant-append : (a b : List SrcLine) → sourcesMeant (a ++ b) ≡ sourcesMeant a ++ sourcesMeant b
+unfolding sourcesMeant
+meant-append [] b = refl
+meant-append (src ∷ a) b = ap (λ es. meant src ∷ es) (meant-append a b)
 
-valid-none : ValidLines []
-unfolding periodsOf weightsOf
-valid-none = record { periods = up-to-none largest; weights = up-to-none largest }
-
--- of a line and of the lines after it
-valid-line : (e : Entry) (entries : List Entry) → ValidLines (e ∷ entries) → UpTo largest (srcNumbers e) × ValidLines entries
-unfolding periodsOf weightsOf
-valid-line e entries v = (
-  up-to (srcNumbers e) (v .periods 0, (v .weights 0, tt)),
-  record { periods = λ k. v .periods (suc k); weights = λ k. v .weights (suc k) },
-)
-
-valid-cons : (e : Entry) (entries : List Entry) → UpTo largest (srcNumbers e) → ValidLines entries → ValidLines (e ∷ entries)
-unfolding periodsOf weightsOf
-valid-cons e entries u v =
-    record {
-      periods = up-to-cons (e .source .period) (periodsOf entries) (u 0) (v .periods);
-      weights = up-to-cons (e .weight) (weightsOf entries) (u 1) (v .weights);
-    }
-
-valid-append : (a b : List Entry) → ValidLines a → ValidLines b → ValidLines (a ++ b)
-valid-append [] b s t = t
-valid-append (e ∷ a) b s t = let v = valid-line e a s in valid-cons e (a ++ b) (v .0) (valid-append a b (v .1) t)
+small-append : (a b : List SrcLine) → SrcsSmall a → SrcsSmall b → SrcsSmall (a ++ b)
+small-append [] b s t = t
+small-append (src ∷ a) b s t = (s .0, small-append a b (s .1) t)
 
 -- ---- lines passed
 
 -- `count` lines are passed up to `next`, and their numbers are stored; where none can follow, none stand at `at`
-pub record Listing (text : List ℕ) (at : ℕ) (periods weights periods′ weights′ : List ℕ) (next count : ℕ) : Type 0 where
-  pub entries : List Entry
-  pub counted : length entries ≡ count
+pub record Listing (text : List ℕ) (at : ℕ) (periods weights phases periods′ weights′ phases′ : List ℕ) (next count : ℕ) : Type 0 where
+  pub srcs : List SrcLine
+  pub counted : length (sourcesMeant srcs) ≡ count
   pub far : count ≤ next
-  pub small : ValidLines entries
-  pub stand : Spelled text at (srcLines entries) next
+  pub small : SrcsSmall srcs
+  pub stand : Spelled text at (srcLines srcs) next
   pub refutes : NoLines text next → NoLines text at
   pub periodsLong : length periods′ ≡ length periods
   pub weightsLong : length weights′ ≡ length weights
-  pub storesPeriods : periods′ ≡ storedIn (periodsOf entries) periods
-  pub storesWeights : weights′ ≡ storedIn (weightsOf entries) weights
+  pub phasesLong : length phases′ ≡ length phases
+  pub storesPeriods : periods′ ≡ storedIn (periodsOf (sourcesMeant srcs)) periods
+  pub storesWeights : weights′ ≡ storedIn (weightsOf (sourcesMeant srcs)) weights
+  pub storesPhases : phases′ ≡ storedIn (phasesOf (sourcesMeant srcs)) phases
 
-pub listing-none : (text : List ℕ) (at : ℕ) (periods weights : List ℕ) → Listing text at periods weights periods weights at 0
-unfolding periodsOf weightsOf srcLines
-listing-none text at periods weights =
+pub listing-none : (text : List ℕ) (at : ℕ) (periods weights phases : List ℕ) → Listing text at periods weights phases periods weights phases at 0
+unfolding periodsOf weightsOf phasesOf srcLines sourcesMeant
+listing-none text at periods weights phases =
     record {
-      entries = [];
+      srcs = [];
       counted = refl;
       far = omega arith;
-      small = valid-none;
+      small = tt;
       stand = spelled-none;
       refutes = λ n. n;
       periodsLong = refl;
       weightsLong = refl;
+      phasesLong = refl;
       storesPeriods = sym (stored-none periods);
       storesWeights = sym (stored-none weights);
+      storesPhases = sym (stored-none phases);
     }
 
 -- a text that has not ended is no end
 not-ended : (text : List ℕ) (at : ℕ) → at < length text → drop at text ≡ [] → ⊥
 not-ended text at h e = let l = simp length-drop at (ap length e) in omega arith
 
-line-long : (period weight : ℕ) → 0 < length (line srcWord (period ∷ weight ∷ []))
+line-some : (numbers : List ℕ) → 0 < length (line srcWord numbers)
 unfolding line
-line-long period weight = omega arith
+line-some numbers = omega arith
 
 -- where the text has ended, no line is left
 pub lines-end : (text : List ℕ) (at : ℕ) → length text ≤ at → Lines text at []
 unfolding srcLines
-lines-end text at h = record { small = valid-none; is = drop-of-length-le text h }
+lines-end text at h = record { small = tt; is = drop-of-length-le text h }
 
 -- a line in front of lines
-module _ {text : List ℕ} {at period weight next : ℕ} (l : Line text at srcWord (period ∷ weight ∷ []) next) where
+module _ {text : List ℕ} {at : ℕ} {src : SrcLine} {next : ℕ} (l : SrcStands text at src next) where
   pub line-ends : (at < next) × (next ≤ length text)
-  line-ends = spelled-within (l .stands) (line-long period weight)
+  line-ends = spelled-within (l .stands .stands) (line-some (srcNumbers src))
 
-  pub line-joins : {entries : List Entry} → Lines text next entries → Lines text at (entry period weight ∷ entries)
+  pub line-joins : {srcs : List SrcLine} → Lines text next srcs → Lines text at (src ∷ srcs)
   unfolding srcLines
-  line-joins {entries} m = record { small = valid-cons (entry period weight) entries (l .small) (m .small); is = l .stands .is ∙ rw (m .is) }
+  line-joins m = record { small = (l .stands .small, m .small); is = l .stands .stands .is ∙ rw (m .is) }
 
   pub line-refutes : NoLines text next → NoLines text at
   unfolding srcLines
   line-refutes n = record { none = go }
     where
-      go : (entries : List Entry) → Lines text at entries → ⊥
+      go : (srcs : List SrcLine) → Lines text at srcs → ⊥
       go [] m = not-ended text at (omega (arith, line-ends)) (m .is)
-      go (e ∷ entries) m =
-          n .none entries
-          (record { small = valid-line e entries (m .small) .1; is = line-split srcWord _ (srcNumbers e) (drop next text) (srcLines entries) (sym (l .stands .is) ∙ m .is) .1 })
+      go (other ∷ srcs) m =
+          n .none srcs
+          (record { small = m .small .1; is = line-split srcWord (srcNumbers src) (srcNumbers other) (drop next text) (srcLines srcs) (sym (l .stands .stands .is) ∙ m .is) .1 })
 
 -- where the text has not ended and no line stands, no lines do
-pub no-line : {text : List ℕ} {at : ℕ} → at < length text → NoLine text at srcWord 2 → NoLines text at
+pub no-line : {text : List ℕ} {at : ℕ} → at < length text → NoSrc text at → NoLines text at
 unfolding srcLines
 no-line {text} {at} h n = record { none = go }
   where
-    go : (entries : List Entry) → Lines text at entries → ⊥
+    go : (srcs : List SrcLine) → Lines text at srcs → ⊥
     go [] m = not-ended text at h (m .is)
-    go (e ∷ entries) m = n .none (srcNumbers e) (srcLines entries) refl (valid-line e entries (m .small) .0) (m .is)
+    go (withPhase p w s ∷ srcs) m = n .long .none (p ∷ w ∷ s ∷ []) (srcLines srcs) refl (m .small .0) (m .is)
+    go (withoutPhase p w ∷ srcs) m = n .short .none (p ∷ w ∷ []) (srcLines srcs) refl (m .small .0) (m .is)
 
 -- ---- one line more
 
-module _ {text : List ℕ} {at : ℕ} {periods weights periods′ weights′ : List ℕ} {next count : ℕ}
-    (g : Listing text at periods weights periods′ weights′ next count) where
-  pub listing-more : {end : ℕ} {periods″ weights″ : List ℕ} → SourceStored text next periods′ weights′ count periods″ weights″ end
-      → Listing text at periods weights periods″ weights″ end (count + 1)
-  unfolding periodsOf weightsOf srcLines
+module _ {text : List ℕ} {at : ℕ} {periods weights phases periods′ weights′ phases′ : List ℕ} {next count : ℕ}
+    (g : Listing text at periods weights phases periods′ weights′ phases′ next count) where
+  pub listing-more : {end : ℕ} {periods″ weights″ phases″ : List ℕ} → SourceStored text next periods′ weights′ phases′ count periods″ weights″ phases″ end
+      → Listing text at periods weights phases periods″ weights″ phases″ end (count + 1)
+  unfolding periodsOf weightsOf phasesOf srcLines sourcesMeant
   listing-more s =
-      let l = s .stands in
-      let new = entry (s .period) (s .weight) ∷ [] in
-      let front = g .entries in
+      let l = s .is in
+      let front = g .srcs in
+      let new = s .src ∷ [] in
+      let sources = meant-append front new in
       record {
-        entries = front ++ new;
-        counted = length-append front new ∙ omega (arith, g .counted);
+        srcs = front ++ new;
+        counted = ap length sources ∙ length-append (sourcesMeant front) (sourcesMeant new) ∙ omega (arith, g .counted);
         far = omega (arith, g .far, line-ends l);
-        small = valid-append front new (g .small) (valid-cons (entry (s .period) (s .weight)) [] (l .small) valid-none);
-        stand = rw (src-lines-append front new, append-nil) (spelled-append (g .stand) (l .stands));
+        small = small-append front new (g .small) (l .stands .small, tt);
+        stand = rw (src-lines-append front new, append-nil) (spelled-append (g .stand) (l .stands .stands));
         refutes = λ n. g .refutes (line-refutes l n);
         periodsLong = ap length (s .storesPeriod) ∙ simp length-set (g .periodsLong);
         weightsLong = ap length (s .storesWeight) ∙ simp length-set (g .weightsLong);
-        storesPeriods = s .storesPeriod ∙ rw (g .storesPeriods, periods-append front new, ← g .counted, ← periods-length front) (stored-more (periodsOf front) periods (s .period));
-        storesWeights = s .storesWeight ∙ rw (g .storesWeights, weights-append front new, ← g .counted, ← weights-length front) (stored-more (weightsOf front) weights (s .weight));
+        phasesLong = ap length (s .storesPhase) ∙ simp length-set (g .phasesLong);
+        storesPeriods = rw sources (stored-behind periodsOf periods-append periods-length (sourcesMeant front) (meant (s .src)) periods (g .counted) refl (g .storesPeriods) (s .storesPeriod));
+        storesWeights = rw sources (stored-behind weightsOf weights-append weights-length (sourcesMeant front) (meant (s .src)) weights (g .counted) refl (g .storesWeights) (s .storesWeight));
+        storesPhases = rw sources (stored-behind phasesOf phases-append phases-length (sourcesMeant front) (meant (s .src)) phases (g .counted) refl (g .storesPhases) (s .storesPhase));
       }
 
-  pub listing-ends : length text ≤ next → LinesListed text at periods weights periods′ weights′ count next
+  pub listing-ends : length text ≤ next → LinesListed text at periods weights phases periods′ weights′ phases′ count next
   listing-ends h =
       record {
-        entries = g .entries;
+        srcs = g .srcs;
         lines = record { small = g .small; is = g .stand .is ∙ rw (drop-of-length-le text h, append-nil) };
         stand = g .stand;
         counted = g .counted;
         storesPeriods = g .storesPeriods;
         storesWeights = g .storesWeights;
+        storesPhases = g .storesPhases;
       }
 
   -- the text goes on, and not with a line
-  pub listing-fails : next < length text → NoLine text next srcWord 2 → NoLines text at
+  pub listing-fails : next < length text → NoSrc text next → NoLines text at
   listing-fails h n = g .refutes (no-line h n)

@@ -8,29 +8,39 @@ use mathlib.Core.List.{List, []}
 use mathlib.Core.Option.{Option, some, none}
 use lib.ListN.{length}
 use Rattle.words.proofs.Standing.{line-found}
-use Rattle.sources.specs.Entry.{Entry}
-use Rattle.text.specs.Form.{runWord, srcWord, Content}
+use Rattle.text.specs.Form.{runWord, srcWord, SrcLine, sourcesMeant, Content}
 use Rattle.text.specs.Promise.{Reads}
-use Rattle.text.specs.Inner.{Lines, NoLines, runOf}
-use Rattle.text.proofs.Lines.{line-two, line-run}
+use Rattle.text.specs.Inner.{SrcStands, NoSrc, Lines, NoLines, runOf}
+use Rattle.text.proofs.Lines.{line-short, line-long, line-run}
 use Rattle.text.proofs.Listing.{lines-end, line-joins, line-refutes, line-ends, no-line}
 use Rattle.text.proofs.Answers.{too-long, no-run, no-sources, has-form}
 
 module _ (text : List ℕ) where
+  -- a `src` line stands at `at`, in one of its two spellings, or none does
+  src-found : (at : ℕ) → ((src : SrcLine) × (next : ℕ) × SrcStands text at src next) ⊎ NoSrc text at
+  src-found at =
+      elim (line-found text at srcWord 3) [
+        | inl f ↦ inl (_, _, line-long (f .stands) (f .counted))
+        | inr long ↦
+            elim (line-found text at srcWord 2) [
+              | inl f ↦ inl (_, _, line-short (f .stands) (f .counted))
+              | inr short ↦ inr (record { long = long; short = short })
+            ]
+      ]
+
   -- the `src` lines from `at` up to the end of the text, of which at most so many bytes are left
-  lines-on : (left at : ℕ) → length text ≤ at + left → ((entries : List Entry) × Lines text at entries) ⊎ NoLines text at
+  lines-on : (left at : ℕ) → length text ≤ at + left → ((srcs : List SrcLine) × Lines text at srcs) ⊎ NoLines text at
   lines-on zero at h = inl ([], lines-end text at (omega arith))
   lines-on (suc left) at h =
       elim (decLt at (length text)) [
         | no ended ↦ inl ([], lines-end text at (omega arith))
         | yes there ↦
-            elim (line-found text at srcWord 2) [
+            elim (src-found at) [
               | inr n ↦ inr (no-line there n)
               | inl f ↦
-                  let l = line-two (f .stands) (f .counted) in
-                  elim (lines-on left (f .next) (omega (arith, line-ends l))) [
-                    | inl m ↦ inl (_, line-joins l (m .1))
-                    | inr n ↦ inr (line-refutes l n)
+                  elim (lines-on left (f .1) (omega (arith, line-ends (f .2)))) [
+                    | inl m ↦ inl (_, line-joins (f .2) (m .1))
+                    | inr n ↦ inr (line-refutes (f .2) n)
                   ]
             ]
       ]
@@ -46,7 +56,7 @@ module _ (text : List ℕ) where
               | inl f ↦
                   let l = line-run (f .stands) (f .counted) refl in
                   elim (lines-on (length text) (f .next) (omega arith)) [
-                    | inl m ↦ (some (record { run = runOf (f .numbers); entries = m .0 }), has-form l (omega arith) (m .1))
+                    | inl m ↦ (some (record { run = runOf (f .numbers); entries = sourcesMeant (m .0) }), has-form l (omega arith) (m .1))
                     | inr n ↦ (none, no-sources l n)
                   ]
             ]

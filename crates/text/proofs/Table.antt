@@ -8,7 +8,7 @@ use Rattle.text.specs.Form.{Content}
 use Rattle.text.specs.Promise.{mostSources, mostCells, textTests}
 use Rattle.text.specs.Table.{textTable}
 
--- "Text: 11, 1, 2, 3, 12, then each source 4 before 7", after 11, with 17, 18 for 2
+-- "Text: 11, 1, 2, 3, 12, then each source 4 before 7", after 11, with 17, 18 for 2, and 22 after 7
 pub text-renders : (content : Content) → Renders (textTests content) (textTable content)
 unfolding textTests
 text-renders content =

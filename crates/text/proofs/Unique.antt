@@ -17,10 +17,9 @@ use Rattle.scope.specs.declared.Place.the-variants.{Nowhere}
 use Rattle.scope.specs.Reply.{answered, reply, stored}
 use Rattle.scope.proofs.Judged.{Fails, Passes, same-refusal, refuse-reply, grant-reply, grant-stored}
 use Rattle.scope.proofs.Rendered.{judged}
-use Rattle.sources.specs.Entry.{Entry}
-use Rattle.sources.specs.Lists.{periodsOf, weightsOf}
-use Rattle.sources.proofs.Entries.{entry, entries-of, periods-length, weights-length}
-use Rattle.text.specs.Form.{runWord, srcWord, runNumbers, srcNumbers, srcLines, textOf, Content, Spells}
+use Rattle.sources.specs.Lists.{periodsOf, weightsOf, phasesOf}
+use Rattle.sources.proofs.Entries.{entries-of, periods-length, weights-length, phases-length}
+use Rattle.text.specs.Form.{runWord, srcWord, runNumbers, SrcLine, withPhase, withoutPhase, srcNumbers, srcLines, sourcesMeant, textOf, Content, Spells}
 use Rattle.text.specs.Promise.{mostSources, Reads, textTests, replyTo, handed, saysText, TextPromise, sourcesOf}
 use Rattle.text.specs.declared.Answer.{Answer}
 use Rattle.text.specs.declared.Answer.the-variants.{Read, Refused}
@@ -29,33 +28,38 @@ use Rattle.text.proofs.Says.{reads-exists}
 
 -- ---- the rendering is injective
 
--- numbers that are a run's, or an entry's, are so of one only
+-- numbers that are a run's, or a `src` line's, are so of one only
 run-same : {a b : Run} → runNumbers a ≡ runNumbers b → a ≡ b
 run-same e = ap (λ l. record { window = getD l 0 0; interval = getD l 1 0; first = getD l 2 0; last = getD l 3 0 }) e
 
-entry-same : {a b : Entry} → srcNumbers a ≡ srcNumbers b → a ≡ b
-entry-same e = ap (λ l. entry (getD l 0 0) (getD l 1 0)) e
+src-same : (a b : SrcLine) → srcNumbers a ≡ srcNumbers b → a ≡ b
+src-same (withPhase p w s) (withPhase p′ w′ s′) e = ap (λ l. withPhase (getD l 0 0) (getD l 1 0) (getD l 2 0)) e
+src-same (withPhase p w s) (withoutPhase p′ w′) e = absurd (let z = ap length e in omega arith)
+src-same (withoutPhase p w) (withPhase p′ w′ s′) e = absurd (let z = ap length e in omega arith)
+src-same (withoutPhase p w) (withoutPhase p′ w′) e = ap (λ l. withoutPhase (getD l 0 0) (getD l 1 0)) e
 
-lines-injective : (a b : List Entry) → srcLines a ≡ srcLines b → a ≡ b
+lines-injective : (a b : List SrcLine) → srcLines a ≡ srcLines b → a ≡ b
 unfolding srcLines line
 lines-injective [] [] e = refl
 lines-injective [] (g ∷ b) e = absurd (let z = ap length e in omega arith)
 lines-injective (f ∷ a) [] e = absurd (let z = ap length e in omega arith)
 lines-injective (f ∷ a) (g ∷ b) e =
     let k = line-split srcWord (srcNumbers f) (srcNumbers g) (srcLines a) (srcLines b) e in
-    ap (λ h. h ∷ a) (entry-same (k .0)) ∙ ap (λ t. g ∷ t) (lines-injective a b (k .1))
+    ap (λ h. h ∷ a) (src-same f g (k .0)) ∙ ap (λ t. g ∷ t) (lines-injective a b (k .1))
 
-pub text-injective : (a b : Content) → textOf a ≡ textOf b → a ≡ b
+pub text-injective : (run run′ : Run) (srcs srcs′ : List SrcLine) → textOf run srcs ≡ textOf run′ srcs′ → (run ≡ run′) × (srcs ≡ srcs′)
 unfolding textOf
-text-injective a b e =
-    let k = line-split runWord (runNumbers (a .run)) (runNumbers (b .run)) (srcLines (a .entries)) (srcLines (b .entries)) e in
-    ap (λ r. record { run = r; entries = a .entries }) (run-same (k .0))
-    ∙ ap (λ es. record { run = b .run; entries = es }) (lines-injective (a .entries) (b .entries) (k .1))
+text-injective run run′ srcs srcs′ e =
+    let k = line-split runWord (runNumbers run) (runNumbers run′) (srcLines srcs) (srcLines srcs′) e in
+    (run-same (k .0), lines-injective srcs srcs′ (k .1))
 
 -- ---- so is the reading of a text
 
 pub spells-unique : {text : List ℕ} {a b : Content} → Spells text a → Spells text b → a ≡ b
-spells-unique {a = a} {b = b} s t = text-injective a b (sym (s .spelled) ∙ t .spelled)
+spells-unique {a = a} {b = b} s t =
+    let same = text-injective (a .run) (b .run) (s .srcs) (t .srcs) (sym (s .formed .spelled) ∙ t .formed .spelled) in
+    let entries : a .entries ≡ b .entries = sym (s .means) ∙ ap sourcesMeant (same .1) ∙ t .means in
+    λ k. record { run = same .0 k; entries = entries k }
 
 pub reads-unique : (text : List ℕ) (a b : Option Content) → Reads text a → Reads text b → a ≡ b
 reads-unique text none none r s = refl
@@ -77,7 +81,8 @@ text-unique text i j p q =
     let counts : i .count ≡ j .count = p .counts ∙ rw e (sym (q .counts)) in
     let periods : i .periods ≡ j .periods = p .periods ∙ rw e (sym (q .periods)) in
     let weights : i .weights ≡ j .weights = p .weights ∙ rw e (sym (q .weights)) in
-    λ k. record { answer = answers k; count = counts k; periods = periods k; weights = weights k }
+    let phases : i .phases ≡ j .phases = p .phases ∙ rw e (sym (q .phases)) in
+    λ k. record { answer = answers k; count = counts k; periods = periods k; weights = weights k; phases = phases k }
 
 -- ---- some reply fits: every text says something, or it has not the form
 
@@ -93,11 +98,11 @@ pub text-exists : (text : List ℕ) → (input : Input) × TextPromise text inpu
 text-exists text =
     let (o, r) = reads-exists text in
     let (a, says) = answer o in (
-      record { answer = a; count = length (handed o); periods = padded mostSources (periodsOf (handed o)); weights = padded mostSources (weightsOf (handed o)) },
-      record { content = o; reads = r; says = says; counts = refl; periods = refl; weights = refl },
+      record { answer = a; count = length (handed o); periods = padded mostSources (periodsOf (handed o)); weights = padded mostSources (weightsOf (handed o)); phases = padded mostSources (phasesOf (handed o)) },
+      record { content = o; reads = r; says = says; counts = refl; periods = refl; weights = refl; phases = refl },
     )
 
--- ---- accepted with a run and sources exactly if the text is their rendering and they pass the tests
+-- ---- accepted with a run and sources exactly if the text says them and they pass the tests
 
 pub sources-handed : (text : List ℕ) (input : Input) (p : TextPromise text input) → sourcesOf input ≡ handed (p .content)
 sources-handed text input p =
@@ -106,7 +111,9 @@ sources-handed text input p =
     ap (take (input .count)) (p .periods) ∙ padded-front mostSources (input .count) (periodsOf es) (periods-length es ∙ sym (p .counts)) in
     let beside : take (input .count) (input .weights) ≡ weightsOf es =
     ap (take (input .count)) (p .weights) ∙ padded-front mostSources (input .count) (weightsOf es) (weights-length es ∙ sym (p .counts)) in
-    rw (front, beside) (entries-of es)
+    let behind : take (input .count) (input .phases) ≡ phasesOf es =
+    ap (take (input .count)) (p .phases) ∙ padded-front mostSources (input .count) (phasesOf es) (phases-length es ∙ sym (p .counts)) in
+    rw (front, beside, behind) (entries-of es)
 
 pub accepted : (text : List ℕ) (input : Input) → TextPromise text input → (d : Content)
     → ((input .answer ≡ Read (d .run)) × (sourcesOf input ≡ d .entries)) ↔ (Spells text d × Passes (textTests d))

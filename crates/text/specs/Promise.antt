@@ -15,7 +15,7 @@ use Rattle.scope.specs.declared.Place.{Place}
 use Rattle.scope.specs.declared.Place.the-variants.{Nowhere}
 use Rattle.scope.specs.Reply.{Said, refused, answered, reply, stored}
 use Rattle.sources.specs.Entry.{Entry, entriesOf, listTests}
-use Rattle.sources.specs.Lists.{periodsOf, weightsOf}
+use Rattle.sources.specs.Lists.{periodsOf, weightsOf, phasesOf}
 use Rattle.text.specs.Form.{Content, Spells}
 use Rattle.text.specs.declared.Answer.{Answer}
 use Rattle.text.specs.declared.Input.{Input}
@@ -34,7 +34,7 @@ mostSources = 64
 abbrev pub mostCells : ℕ
 mostCells = 65536
 
--- "Text: 11, 1, 2, 3, 12, then each source 4 before 7", after 11, with 17, 18 for 2 (E1, E2).
+-- "Text: 11, 1, 2, 3, 12, then each source 4 before 7", after 11, with 17, 18 for 2 (E1, E2) and "22 .. after 7 in each source" (E5).
 unfoldable pub textTests : Content → Tests
 textTests content =
     runTests (content .run) andThen
@@ -65,11 +65,12 @@ pub record TextPromise (text : List ℕ) (input : Input) : Type 0 where
   pub counts : input .count ≡ length (handed content)
   pub periods : input .periods ≡ padded mostSources (periodsOf (handed content))
   pub weights : input .weights ≡ padded mostSources (weightsOf (handed content))
+  pub phases : input .phases ≡ padded mostSources (phasesOf (handed content))
 
--- "`src period weight` lines, none or more": the sources that a reply hands out, as many as it counts.
+-- "`src` .. lines, none or more": the sources that a reply hands out, as many as it counts.
 abbrev pub sourcesOf : Input → List Entry
-sourcesOf input = entriesOf (take (input .count) (input .periods)) (take (input .count) (input .weights))
+sourcesOf input = entriesOf (take (input .count) (input .periods)) (take (input .count) (input .weights)) (take (input .count) (input .phases))
 
 -- A refusal, and nothing handed out with it.
 abbrev pub refusal : Reason → Place → Input
-refusal reason place = record { answer = Refused reason place; count = 0; periods = zeros mostSources; weights = zeros mostSources }
+refusal reason place = record { answer = Refused reason place; count = 0; periods = zeros mostSources; weights = zeros mostSources; phases = zeros mostSources }

@@ -1,4 +1,4 @@
--- Document 01, "The refusal numbers", as propositions: what the table says of a text, in its order.
+-- Document 01, "The refusal numbers", and request E5, as propositions: what the table says of a text, in its order.
 use Prim.Native.Nat.{ℕ, _<_}
 use mathlib.Core.Logic.{_⊎_}
 use mathlib.Core.List.{List, [], _∷_, _++_}
@@ -11,8 +11,8 @@ use Rattle.sources.specs.Table.{sourcesTable}
 use Rattle.text.specs.Form.{Content, Spells}
 use Rattle.text.specs.Promise.{mostSources, mostCells, Reads}
 
--- "Text: 11, 1, 2, 3, 12, then each source 4 before 7", with 17, 18 for 2 (E1, E2): what follows 11, of what the text
--- says.
+-- "Text: 11, 1, 2, 3, 12, then each source 4 before 7", with 17, 18 for 2 (E1, E2) and 22 after 7 (E5): what follows 11, of what the
+-- text says.
 abbrev pub textTable : Content → List Row
 textTable content =
     runTable (content .run) ++

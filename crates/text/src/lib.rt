@@ -12,7 +12,7 @@ ghost use Rattle.scope.specs.Refusal.{_when_, complaint};
 ghost use Rattle.scope.specs.declared.Reason.the-variants.{TooMany};
 ghost use Rattle.scope.specs.Inner.{verdict};
 ghost use Rattle.text.specs.Promise.{mostSources, refusal, TextPromise};
-ghost use Rattle.text.specs.Inner.{SourceAt, SourcesAt, LinesAt, runOf};
+ghost use Rattle.text.specs.Inner.{NumbersAt, SourceAt, SourcesAt, LinesAt, runOf};
 
 // A text has at most so many bytes,
 const LONGEST: usize = 4096;
@@ -29,26 +29,48 @@ pub enum Answer {
     Refused(Reason, Place),
 }
 
-// The reply with the sources: how many there are, and their periods and weights at the beginning of the two lists.
+// The reply with the sources: how many there are, and their periods, weights and phases at the beginning of the three lists.
 // All the rest is 0, and after a refusal everything.
 pub struct Input {
     pub answer: Answer,
     pub count: usize,
     pub periods: [u32; SOURCES],
     pub weights: [u32; SOURCES],
+    pub phases: [u32; SOURCES],
 }
 
-// Where a `src` line ends; its period and its weight go into the two lists at k, where there is room.
-fn read_source(text: &[u8], at: usize, periods: &mut [u32], weights: &mut [u32], k: usize) -> Found
-    ensures { λ r. ⌜ SourceAt (now (text .entry)) at (now (periods .entry)) (now (weights .entry)) k (now (periods .exit)) (now (weights .exit)) r ⌝ }
+// Where a `src` line ends; its period, its weight and its phase go into the room. A line without a phase means phase 0.
+fn read_numbers(text: &[u8], at: usize, numbers: &mut [u32]) -> Found
+    requires { ⌜ length (now numbers) ≡ 3 ⌝ }
+    ensures { λ r. ⌜ NumbersAt (now (text .entry)) at (now (numbers .exit)) r ⌝ }
 {
-    let mut numbers = [0u32; 2];
-    let line = words::read_line(text, at, b"src", &mut numbers, Reason::Text);
+    let phased = words::read_line(text, at, b"src", numbers, Reason::Text);
+    let Found::Next(next) = phased else {
+        numbers[2] = 0;
+        return words::read_line(text, at, b"src", &mut numbers[0..2], Reason::Text);
+    };
+    Found::Next(next)
+}
+
+// Where a `src` line ends; its numbers go into the three lists at k, where there is room.
+fn read_source(
+    text: &[u8],
+    at: usize,
+    periods: &mut [u32],
+    weights: &mut [u32],
+    phases: &mut [u32],
+    k: usize,
+) -> Found
+    ensures { λ r. ⌜ SourceAt (now (text .entry)) at (now (periods .entry)) (now (weights .entry)) (now (phases .entry)) k (now (periods .exit)) (now (weights .exit)) (now (phases .exit)) r ⌝ }
+{
+    let mut numbers = [0u32; 3];
+    let line = read_numbers(text, at, &mut numbers);
     let Found::Next(next) = line else {
         return line;
     };
     rooms::put(periods, k, numbers[0]);
     rooms::put(weights, k, numbers[1]);
+    rooms::put(phases, k, numbers[2]);
     Found::Next(next)
 }
 
@@ -59,14 +81,15 @@ fn read_sources(
     at: usize,
     periods: &mut [u32],
     weights: &mut [u32],
+    phases: &mut [u32],
     count: &mut usize,
 ) -> Found
-    ensures { λ r. ⌜ SourcesAt (now (text .entry)) at (now (periods .entry)) (now (weights .entry)) (now (periods .exit)) (now (weights .exit)) (now (count .entry)) (now (count .exit)) r ⌝ }
+    ensures { λ r. ⌜ SourcesAt (now (text .entry)) at (now (periods .entry)) (now (weights .entry)) (now (phases .entry)) (now (periods .exit)) (now (weights .exit)) (now (phases .exit)) (now (count .entry)) (now (count .exit)) r ⌝ }
 {
     let mut next = at;
     let mut k: usize = 0;
     while next < text.len() {
-        let source = read_source(text, next, periods, weights, k);
+        let source = read_source(text, next, periods, weights, phases, k);
         let Found::Next(end) = source else {
             return source;
         };
@@ -83,10 +106,11 @@ fn read_lines(
     numbers: &mut [u32],
     periods: &mut [u32],
     weights: &mut [u32],
+    phases: &mut [u32],
     count: &mut usize,
 ) -> Found
     requires { ⌜ length (now numbers) ≡ 4 ⌝ }
-    ensures { λ r. ⌜ LinesAt (now (text .entry)) (now (numbers .exit)) (now (periods .entry)) (now (weights .entry)) (now (periods .exit)) (now (weights .exit)) (now (count .entry)) (now (count .exit)) r ⌝ }
+    ensures { λ r. ⌜ LinesAt (now (text .entry)) (now (numbers .exit)) (now (periods .entry)) (now (weights .entry)) (now (phases .entry)) (now (periods .exit)) (now (weights .exit)) (now (phases .exit)) (now (count .entry)) (now (count .exit)) r ⌝ }
 {
     if LONGEST < text.len() {
         return Found::Refused(Reason::Text);
@@ -95,7 +119,7 @@ fn read_lines(
     let Found::Next(at) = run else {
         return run;
     };
-    read_sources(text, at, periods, weights, count)
+    read_sources(text, at, periods, weights, phases, count)
 }
 
 // The run that the numbers of a `run` line say.
@@ -129,25 +153,28 @@ fn refuse(reason: Reason, place: Place) -> Input
         count: 0,
         periods: [0; SOURCES],
         weights: [0; SOURCES],
+        phases: [0; SOURCES],
     }
 }
 
 // Public operation. The run and the sources that a text has, or the refusal.
 // All lines are read before the first number is judged: what is not of the form comes before what is not within the limits.
-// Refused, in this order: 11 for the form, 1, 17, 18, 3 for the run, 12 for too many sources or cells, 4 or 7 for the first source
-// at fault, with its place.
+// Refused, in this order: 11 for the form, 1, 17, 18, 3 for the run, 12 for too many sources or cells, 4, 7 or 22 for the first
+// source at fault, with its place.
 pub fn read_text(text: &[u8]) -> Input
     ensures { λ r. ⌜ TextPromise (now (text .entry)) r ⌝ }
 {
     let mut numbers = [0u32; 4];
     let mut periods = [0u32; SOURCES];
     let mut weights = [0u32; SOURCES];
+    let mut phases = [0u32; SOURCES];
     let mut count: usize = 0;
     if let Found::Refused(reason) = read_lines(
         text,
         &mut numbers,
         &mut periods,
         &mut weights,
+        &mut phases,
         &mut count,
     ) {
         return refuse(reason, Place::Nowhere);
@@ -164,6 +191,7 @@ pub fn read_text(text: &[u8]) -> Input
     if let Verdict::Refused(reason, place) = sources::judge_entries(
         &periods[..count],
         &weights[..count],
+        &phases[..count],
     ) {
         return refuse(reason, place);
     }
@@ -172,5 +200,6 @@ pub fn read_text(text: &[u8]) -> Input
         count,
         periods,
         weights,
+        phases,
     }
 }

@@ -1,12 +1,14 @@
 // 01's two bench figures without a star, by running the calls: a window of 6 with a period of 4, which crate figures proves as well,
-// and the last line there is, which is 18 since E1. Then runs that begin at line 0, as since E2 they may; and line limits, and sources at
-// fault in a list, two faults at a time, as 02 has them refused.
+// and the last line there is, which is 18 since E1. Then runs that begin at line 0, as since E2 they may; sources with a phase, as E5 has
+// them; and line limits, and sources at fault in a list, two faults at a time, as 02 has them refused.
 use crate::files;
 use crate::listing;
+use crate::listing::NO_CELL;
 use crate::mapping;
 use crate::reports;
 use crate::texts;
 use scope::Run;
+use scope::Source;
 use trying::reference::Refusal;
 use trying::reference::plain;
 use trying::refusals;
@@ -32,19 +34,25 @@ fn run_of(interval: u32, first: u32, last: u32) -> Run {
     }
 }
 
+// A source with phase 0.
+fn unphased(period: u32) -> Source {
+    Source { period, phase: 0 }
+}
+
 // The last line 16,777,216 is accepted, 16,777,217 is refused 18.
 pub fn try_last(ledger: &mut [u64]) {
+    let source = unphased(7);
     let last = run_of(10, 0, 16777216);
     let above = run_of(10, 0, 16777217);
     tally::count(
         ledger,
         tally::LAST,
-        listing::first_says(plain(0), last, 7, 0),
+        listing::first_says(plain(0), last, source, 0),
     );
     tally::count(
         ledger,
         tally::LAST,
-        listing::first_says(plain(18), above, 7, 0),
+        listing::first_says(plain(18), above, source, 0),
     );
 }
 
@@ -54,7 +62,7 @@ pub fn try_zero(ledger: &mut [u64]) {
     let line = tally::ZERO_EXAMPLES;
     let text = b"run 4 10 0 5\nsrc 7 60\nsrc 3 200\n";
     let printed =
-        b"run 4 10 0 5 24\nsrc 1 7 60 4\nsrc 2 3 200 8\nmap 2 255\nmap 4 200\nmap 7 200\nmap 9 255\nmap 14 200\nmap 16 255\nmap 19 200\nmap 21 200\nmap 23 60\nend 9\n";
+        b"run 4 10 0 5 24\nsrc 1 7 60 0 4\nsrc 2 3 200 0 8\nmap 2 255\nmap 4 200\nmap 7 200\nmap 9 255\nmap 14 200\nmap 16 255\nmap 19 200\nmap 21 200\nmap 23 60\nend 9\n";
     let run = run_of(10, 0, 4);
     tally::count(ledger, line, reports::reports(text, printed));
     tally::count(
@@ -76,12 +84,21 @@ pub fn try_last_cell(ledger: &mut [u64]) {
         first: 0,
         last: 16777216,
     };
+    let source = unphased(7);
     let last = 68719480831;
     let all = 68719480832;
-    tally::count(ledger, line, listing::first_at(run, 7, last));
-    tally::count(ledger, line, listing::first_says(plain(8), run, 7, all));
-    tally::count(ledger, line, listing::lists_alone(run, 7, last));
-    tally::count(ledger, line, listing::refused(plain(8), run, 7, all, 8));
+    tally::count(ledger, line, listing::first_at(run, source, last));
+    tally::count(
+        ledger,
+        line,
+        listing::first_says(plain(8), run, source, all),
+    );
+    tally::count(ledger, line, listing::lists_alone(run, source, last));
+    tally::count(
+        ledger,
+        line,
+        listing::refused(plain(8), run, source, all, 8),
+    );
 }
 
 // Tries a run with these lines and an interval of 0 in each of the seven calls with a run besides the blanking list, which crate
@@ -98,13 +115,14 @@ fn try_lines(
 ) {
     let run = run_of(0, first, last);
     let refusal = plain(number);
-    let mapped = mapping::refused(refusal, run, [7, 0], [256, 0], 20);
-    tally::count(ledger, line, listing::first_says(refusal, run, 0, 0));
-    tally::count(ledger, line, listing::refused(refusal, run, 0, 0, 8));
+    let source = unphased(0);
+    let mapped = mapping::refused(refusal, run, [7, 0], [256, 0], [7, 0], 20);
+    tally::count(ledger, line, listing::first_says(refusal, run, source, 0));
+    tally::count(ledger, line, listing::refused(refusal, run, source, 0, 8));
     tally::count(ledger, line, mapped);
     tally::count(ledger, line, files::save_says(refusal, run));
     tally::count(ledger, line, files::read_says(refusal, run));
-    tally::count(ledger, line, texts::reads(text, refusal));
+    tally::count(ledger, line, texts::refused(text, refusal));
     tally::count(ledger, line, reports::reports(text, printed));
 }
 
@@ -141,7 +159,7 @@ fn try_text(ledger: &mut [u64]) {
         number: 4,
         place: 2,
     };
-    tally::count(ledger, tally::TEXT_SOURCE, texts::reads(text, refusal));
+    tally::count(ledger, tally::TEXT_SOURCE, texts::refused(text, refusal));
     tally::count(
         ledger,
         tally::TEXT_SOURCE,
@@ -149,14 +167,104 @@ fn try_text(ledger: &mut [u64]) {
     );
 }
 
-// Sources at fault, in a text and in a map call with a map one cell short.
+// Sources at fault, in a text and in a map call with a map one cell short: a weight, with a phase beside it that is at fault too, and
+// a phase.
 pub fn try_places(ledger: &mut [u64]) {
     let run = run_of(10, 1, 5);
-    let refusal = Refusal {
+    let heavy = Refusal {
         number: 7,
         place: 2,
     };
-    let mapped = mapping::refused(refusal, run, [7, 3], [60, 256], 19);
+    let late = Refusal {
+        number: 22,
+        place: 2,
+    };
+    let weight = mapping::refused(heavy, run, [7, 3], [60, 256], [6, 3], 19);
+    let phase = mapping::refused(late, run, [7, 3], [60, 255], [6, 3], 19);
     try_text(ledger);
-    tally::count(ledger, tally::MAP_SOURCE, mapped);
+    tally::count(ledger, tally::MAP_SOURCE, weight);
+    tally::count(ledger, tally::MAP_SOURCE, phase);
+}
+
+// Reports on sources with a phase: one that hits and one without, and the largest phase there is.
+fn try_phased(ledger: &mut [u64]) {
+    let line = tally::PHASE_EXAMPLES;
+    let text = b"run 4 10 0 5\nsrc 7 60 2\nsrc 3 200\n";
+    let printed =
+        b"run 4 10 0 5 24\nsrc 1 7 60 2 4\nsrc 2 3 200 0 8\nmap 0 60\nmap 2 200\nmap 4 200\nmap 7 255\nmap 9 200\nmap 14 255\nmap 16 200\nmap 19 200\nmap 21 255\nend 9\n";
+    let largest = b"run 4 10 0 5\nsrc 2147483647 1 2147483646\n";
+    let once = b"run 4 10 0 5 24\nsrc 1 2147483647 1 2147483646 1\nmap 3 1\nend 1\n";
+    tally::count(ledger, line, reports::reports(text, printed));
+    tally::count(ledger, line, reports::reports(largest, once));
+}
+
+// A single vector with a phase, interval and period 9, lines 0 to 5: at phase 1 every line is hit at offset -1, at phase 4 none.
+fn try_single(ledger: &mut [u64]) {
+    let line = tally::PHASE_LISTED;
+    let run = run_of(9, 0, 5);
+    let near = Source {
+        period: 9,
+        phase: 1,
+    };
+    let far = Source {
+        period: 9,
+        phase: 4,
+    };
+    let hits = [1, 5, 9, 13, 17, 21, NO_CELL, NO_CELL];
+    tally::count(ledger, line, listing::lists(run, near, 0, 6, hits));
+    tally::count(ledger, line, listing::lists(run, far, 0, 0, [NO_CELL; 8]));
+}
+
+// A text with one `src` line is refused, read and reported.
+fn try_refused(ledger: &mut [u64], text: &[u8], refusal: Refusal, printed: &[u8]) {
+    let line = tally::PHASE_REFUSED;
+    tally::count(ledger, line, texts::refused(text, refusal));
+    tally::count(ledger, line, reports::reports(text, printed));
+}
+
+// Sources at fault in a text: 7 comes before 22, and 4 before both. A fifth word is 11.
+fn try_phase_faults(ledger: &mut [u64]) {
+    let period = Refusal {
+        number: 4,
+        place: 1,
+    };
+    let weight = Refusal {
+        number: 7,
+        place: 1,
+    };
+    let phase = Refusal {
+        number: 22,
+        place: 1,
+    };
+    try_refused(
+        ledger,
+        b"run 4 10 0 5\nsrc 0 1 0\n",
+        period,
+        b"refused 4 source 1\n",
+    );
+    try_refused(
+        ledger,
+        b"run 4 10 0 5\nsrc 7 0 7\n",
+        weight,
+        b"refused 7 source 1\n",
+    );
+    try_refused(
+        ledger,
+        b"run 4 10 0 5\nsrc 7 1 7\n",
+        phase,
+        b"refused 22 source 1\n",
+    );
+    try_refused(
+        ledger,
+        b"run 4 10 0 5\nsrc 7 60 2 1\n",
+        plain(11),
+        b"refused 11\n",
+    );
+}
+
+// Sources with a phase, as they are reported, listed and refused.
+pub fn try_phases(ledger: &mut [u64]) {
+    try_phased(ledger);
+    try_single(ledger);
+    try_phase_faults(ledger);
 }

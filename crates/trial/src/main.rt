@@ -1,4 +1,4 @@
-// The test program: 01's bench figures without a star, examples from line 0, refusals with two faults at a time, and random small
+// The test program: 01's bench figures without a star, examples from line 0 and with phases, refusals with two faults at a time, and random small
 // runs, with a fault here and there and two at once, through every operation, against a walk over all cells, 01's layout of a file and
 // the table of refusals. Each line that it prints says how many cases of a kind were tried, and how many of them were bad. Every
 // function is proved safe and ending; that none is bad is what the stored output holds the program to.
@@ -11,6 +11,7 @@ mod steps;
 mod texts;
 mod turning;
 
+use scope::Source;
 use trying::draw;
 use trying::draw::Case;
 use trying::numbers;
@@ -20,21 +21,31 @@ use trying::tally;
 const TURNS: u32 = 2000;
 
 // Counts a case under its kinds, by the reference alone, so that a kind that never came is seen.
-fn count_kinds(ledger: &mut [u64], window: u32, period: u32, remainder: u32, fine: bool) {
-    let short = period < window;
-    let single = window <= reference::greatest_common_divisor(remainder, period);
+fn count_kinds(ledger: &mut [u64], window: u32, source: Source, remainder: u32, fine: bool) {
+    let short = source.period < window;
+    let divisor = reference::greatest_common_divisor(remainder, source.period);
+    let single = window <= divisor;
+    let elsewhere = numbers::rest(source.phase as u64, divisor as u64) != 0;
     tally::count_if(ledger, short, tally::SHORT, fine);
     tally::count_if(ledger, !short && single, tally::SINGLE, fine);
     tally::count_if(ledger, !short && !single, tally::PAIR, fine);
     tally::count_if(ledger, remainder == 0, tally::NO_REMAINDER, fine);
-    tally::count_if(ledger, period == window, tally::EQUAL, fine);
+    tally::count_if(ledger, source.period == window, tally::EQUAL, fine);
+    tally::count_if(ledger, source.phase != 0, tally::PHASED, fine);
+    tally::count_if(
+        ledger,
+        !short && single && elsewhere,
+        tally::SINGLE_PHASED,
+        fine,
+    );
 }
 
 // The calls that know no map.
 fn try_hits(ledger: &mut [u64], case: Case, state: u64) {
     let block = listing::block_agrees(case, state);
     let run = case.run;
-    let remainder = numbers::rest(run.interval as u64, case.period as u64);
+    let source = case.source;
+    let remainder = numbers::rest(run.interval as u64, source.period as u64);
     tally::count(ledger, tally::VECTORS, steps::vectors_agree(case, state));
     tally::count(
         ledger,
@@ -44,13 +55,7 @@ fn try_hits(ledger: &mut [u64], case: Case, state: u64) {
     tally::count(ledger, tally::LISTING, listing::listing_agrees(case, state));
     tally::count(ledger, tally::BLOCK, block);
     tally::count_if(ledger, run.first == 0, tally::RUNS_FROM_ZERO, block);
-    count_kinds(
-        ledger,
-        run.window,
-        case.period,
-        numbers::low32(remainder),
-        block,
-    );
+    count_kinds(ledger, run.window, source, numbers::low32(remainder), block);
 }
 
 // The calls with a map, a file or a text.
@@ -78,12 +83,13 @@ fn try_all(ledger: &mut [u64]) {
     }
 }
 
-// Tries the bench figures, examples from line 0, the last cell there is, refusals with two faults at a time, and texts at the length
+// Tries the bench figures, examples from line 0 and with phases, the last cell there is, refusals with two faults at a time, and texts at the length
 // limit.
 fn try_figures(ledger: &mut [u64]) {
     tally::count(ledger, tally::WIDE, figures::wide_is_refused());
     figures::try_last(ledger);
     figures::try_zero(ledger);
+    figures::try_phases(ledger);
     figures::try_last_cell(ledger);
     figures::try_limits(ledger);
     figures::try_places(ledger);
@@ -107,6 +113,16 @@ fn print_figures(ledger: &[u64]) {
         ledger,
         tally::ZERO_FILE,
         b"file with first line 0 read, and written again",
+    );
+    tally::print(
+        ledger,
+        tally::PHASE_EXAMPLES,
+        b"run 4 10 0 5 with sources 7 60 2, 3 200, and with source 2147483647 1 2147483646, reported",
+    );
+    tally::print(
+        ledger,
+        tally::PHASE_LISTED,
+        b"interval 9, period 9, lines 0 to 5: phase 1 hits 1, 5, 9, 13, 17, 21, phase 4 nothing",
     );
     tally::print(
         ledger,
@@ -141,7 +157,12 @@ fn print_refusals(ledger: &[u64]) {
     tally::print(
         ledger,
         tally::MAP_SOURCE,
-        b"map a cell short with weights 60, 256 refused 7 source 2",
+        b"map a cell short with a weight, and with a phase, too large: refused 7, 22 source 2",
+    );
+    tally::print(
+        ledger,
+        tally::PHASE_REFUSED,
+        b"source 0 1 0 refused 4, 7 0 7 refused 7, 7 1 7 refused 22, 7 60 2 1 refused 11",
     );
 }
 
@@ -173,6 +194,12 @@ fn print_kinds(ledger: &[u64]) {
     tally::print(ledger, tally::SHORT, b"runs with p < I");
     tally::print(ledger, tally::EQUAL, b"runs with p = I");
     tally::print(ledger, tally::RUNS_FROM_ZERO, b"runs from line 0");
+    tally::print(ledger, tally::PHASED, b"runs with a phase above 0");
+    tally::print(
+        ledger,
+        tally::SINGLE_PHASED,
+        b"runs with a single vector and a phase that g does not divide",
+    );
     tally::print(
         ledger,
         tally::TWO_LIMITS,

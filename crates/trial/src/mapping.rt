@@ -19,11 +19,12 @@ fn says(reply: Added, refusal: Refusal) -> bool {
     }
 }
 
-// The refusals of the map call, in 01's order with E1's line limits, for a map of so many cells.
-fn judge(run: Run, periods: &[u32], weights: &[u32], cells: usize) -> Refusal {
-    let lists = when(periods.len() != weights.len(), 10);
+// The refusals of the map call, in 01's order with E1's line limits and E5's phases, for a map of so many cells.
+fn judge(run: Run, periods: &[u32], weights: &[u32], phases: &[u32], cells: usize) -> Refusal {
+    let all = periods.len();
+    let lists = when(all != weights.len() || all != phases.len(), 10);
     let later = first_of(
-        reference::judge_sources(periods, weights),
+        reference::judge_sources(periods, weights, phases),
         when(reference::cells(run) != cells, 9),
     );
     first_of(reference::judge_run(run), first_of(lists, later))
@@ -35,11 +36,12 @@ fn adds_as(
     run: Run,
     periods: &[u32],
     weights: &[u32],
+    phases: &[u32],
     map: &mut [u8],
     expected: &mut [u8],
 ) -> bool {
-    reference::expect_map(refusal, run, periods, weights, expected);
-    let reply = map::add_to_map(run, periods, weights, map);
+    reference::expect_map(refusal, run, periods, weights, phases, expected);
+    let reply = map::add_to_map(run, periods, weights, phases, map);
     says(reply, refusal) && numbers::same_bytes(map, expected)
 }
 
@@ -49,6 +51,7 @@ pub fn refused(
     run: Run,
     periods: [u32; 2],
     weights: [u32; 2],
+    phases: [u32; 2],
     size: usize,
 ) -> bool {
     let mut map = [170u8; 20];
@@ -61,6 +64,7 @@ pub fn refused(
         run,
         &periods,
         &weights,
+        &phases,
         &mut map[0..size],
         &mut expected[0..size],
     )
@@ -72,46 +76,41 @@ fn adds(
     run: Run,
     periods: &[u32],
     weights: &[u32],
+    phases: &[u32],
     map: &mut [u8],
     expected: &mut [u8],
     state: u64,
 ) -> bool {
-    let refusal = judge(run, periods, weights, map.len());
+    let refusal = judge(run, periods, weights, phases, map.len());
     numbers::draw_bytes(map, state);
     numbers::draw_bytes(expected, state);
-    let fine = adds_as(refusal, run, periods, weights, map, expected);
+    let fine = adds_as(refusal, run, periods, weights, phases, map, expected);
     tally::count_limits(ledger, run, refusal, fine);
-    tally::count_sources(ledger, periods, weights, refusal, fine);
+    tally::count_sources(ledger, periods, weights, phases, refusal, fine);
     fine
 }
 
-// The same with the first of some periods, of some weights, and room for so many cells.
-fn adds_first(
+// The same with room for so many cells.
+fn adds_in(
     ledger: &mut [u64],
     run: Run,
     periods: &[u32],
-    count: usize,
     weights: &[u32],
-    other: usize,
+    phases: &[u32],
     size: usize,
     state: u64,
 ) -> bool {
     let mut map = [0u8; 1025];
     let mut expected = [0u8; 1025];
-    if periods.len() < count {
-        return false;
-    }
-    if weights.len() < other {
-        return false;
-    }
     if 1025 < size {
         return false;
     }
     adds(
         ledger,
         run,
-        &periods[0..count],
-        &weights[0..other],
+        periods,
+        weights,
+        phases,
         &mut map[0..size],
         &mut expected[0..size],
         state,
@@ -122,16 +121,16 @@ fn adds_first(
 pub fn map_agrees(ledger: &mut [u64], case: Case, state: u64) -> bool {
     let mut periods = [0u32; 6];
     let mut weights = [0u32; 6];
+    let mut phases = [0u32; 6];
     let count = numbers::below(state, 6) as usize;
     let seldom = draw::seldom(40, state >> 40);
-    draw::draw_sources(&mut periods, &mut weights, case, state, seldom);
-    adds_first(
+    draw::draw_sources(&mut periods, &mut weights, &mut phases, case, state, seldom);
+    adds_in(
         ledger,
         draw::spoilt_run(case.run, state),
-        &periods,
-        count,
-        &weights,
-        draw::length(count, 1, state >> 32) % 7,
+        numbers::first(&periods, count),
+        numbers::first(&weights, draw::length(count, 1, state >> 32)),
+        numbers::first(&phases, draw::length(count, 1, state >> 38)),
         draw::length(reference::cells(case.run), 1, state >> 20),
         state,
     )

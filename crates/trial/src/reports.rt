@@ -33,6 +33,7 @@ pub fn report_agrees(
     run: Run,
     periods: &[u32],
     weights: &[u32],
+    phases: &[u32],
 ) -> bool {
     let mut room = [0u8; 20000];
     let mut map = [0u8; 1024];
@@ -56,6 +57,7 @@ pub fn report_agrees(
         run,
         periods,
         weights,
+        phases,
         &mut map[0..cells],
     );
     reports_first(text, end, &room, length)

@@ -93,7 +93,7 @@ pub fn compare(period: u32, remainder: u32, window: u32) -> bool {
 pub fn vectors_agree(case: Case, state: u64) -> bool {
     let b = numbers::next(state);
     let window = draw::maybe(case.run.window, state, 8);
-    let period = draw::maybe(case.period, b, 8);
+    let period = draw::maybe(case.source.period, b, 8);
     let remainder = numbers::rest(case.run.interval as u64, period as u64);
     compare(
         period,

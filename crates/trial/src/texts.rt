@@ -1,4 +1,4 @@
-// Texts, written from a run and its sources, and read as just that, or refused.
+// Texts, written from a run and its sources, in either spelling of phase 0, and read as just that, or refused.
 use crate::reports;
 use scope::Run;
 use text::Answer;
@@ -14,52 +14,61 @@ use trying::refusals;
 use trying::spelling;
 use trying::tally;
 
-// Puts the text of a run and the first of some sources, and answers its end.
-fn put_first(room: &mut [u8], run: Run, count: usize, periods: &[u32], weights: &[u32]) -> usize {
-    if periods.len() < count {
-        return 0;
-    }
-    if weights.len() < count {
-        return 0;
-    }
-    spelling::put_text(room, run, &periods[0..count], &weights[0..count])
-}
-
-// Whether a text is refused so; or, for no refusal, is read as a run and sources whose text it is.
-pub fn reads(text: &[u8], refusal: Refusal) -> bool {
-    let mut room = [0u8; 4200];
-    let input = text::read_text(text);
-    let answer = input.answer;
-    let count = input.count;
-    let periods = input.periods;
-    let weights = input.weights;
-    let Answer::Read(run) = answer else {
-        return refused(answer, refusal) && count == 0;
-    };
-    let end = put_first(&mut room, run, count, &periods, &weights);
-    refusal.number == 0 && end == text.len() && numbers::begins_with(&room, text)
-}
-
 // Whether an answer is this refusal.
-fn refused(answer: Answer, refusal: Refusal) -> bool {
+fn says(answer: Answer, refusal: Refusal) -> bool {
     match answer {
         Answer::Read(_) => false,
         Answer::Refused(reason, place) => refusals::same(reason, place, refusal),
     }
 }
 
-// Whether the first bytes of a room, a text of this length, are read as is expected.
-fn reads_first(room: &[u8], length: usize, refusal: Refusal) -> bool {
+// Whether a text is refused so, and no source is handed out with the refusal.
+pub fn refused(text: &[u8], refusal: Refusal) -> bool {
+    let input = text::read_text(text);
+    let answer = input.answer;
+    says(answer, refusal) && input.count == 0
+}
+
+// Whether a text is read as a run and these sources.
+fn accepted(text: &[u8], run: Run, periods: &[u32], weights: &[u32], phases: &[u32]) -> bool {
+    let input = text::read_text(text);
+    let answer = input.answer;
+    let count = input.count;
+    let read_periods = input.periods;
+    let read_weights = input.weights;
+    let read_phases = input.phases;
+    let Answer::Read(read) = answer else {
+        return false;
+    };
+    reference::same_run(read, run)
+        && numbers::same_numbers(numbers::first(&read_periods, count), periods)
+        && numbers::same_numbers(numbers::first(&read_weights, count), weights)
+        && numbers::same_numbers(numbers::first(&read_phases, count), phases)
+}
+
+// Whether the first bytes of a room, a text of this length, are refused so; or, for no refusal, are read as a run and these sources.
+fn reads_first(
+    room: &[u8],
+    length: usize,
+    refusal: Refusal,
+    run: Run,
+    periods: &[u32],
+    weights: &[u32],
+    phases: &[u32],
+) -> bool {
     if room.len() < length {
         return false;
     }
-    reads(&room[0..length], refusal)
+    if refusal.number != 0 {
+        return refused(&room[0..length], refusal);
+    }
+    accepted(&room[0..length], run, periods, weights, phases)
 }
 
 // Puts in the place of a text's end what makes it malformed, one time in eight, and answers the new end.
 fn spoil_end(room: &mut [u8], end: usize, state: u64) -> usize {
     let last = std::num::wrapping_sub_usize(end, 1);
-    match state % 80 {
+    match state % 96 {
         0 => last,
         1 => spelling::put_words(room, end, b"\n"),
         2 => spelling::put_words(room, last, b" \n"),
@@ -70,14 +79,16 @@ fn spoil_end(room: &mut [u8], end: usize, state: u64) -> usize {
         7 => spelling::put_words(room, end, b"src  1 1\n"),
         8 => spelling::put_words(room, end, b"src 1 1"),
         9 => spelling::put_words(room, end, b"src 4294967296 1\n"),
+        10 => spelling::put_words(room, end, b"src 1 1 4294967296\n"),
+        11 => spelling::put_words(room, end, b"src 1 1 0 0\n"),
         _ => end,
     }
 }
 
-// The refusals of a text, in 01's order with E1's line limits, given whether it is malformed.
-fn judge(malformed: bool, run: Run, periods: &[u32], weights: &[u32]) -> Refusal {
+// The refusals of a text, in 01's order with E1's line limits and E5's phases, given whether it is malformed.
+fn judge(malformed: bool, run: Run, periods: &[u32], weights: &[u32], phases: &[u32]) -> Refusal {
     let many = when(64 < periods.len() || 65536 < reference::cells(run), 12);
-    let later = first_of(many, reference::judge_sources(periods, weights));
+    let later = first_of(many, reference::judge_sources(periods, weights, phases));
     first_of(
         when(malformed, 11),
         first_of(reference::judge_run(run), later),
@@ -86,16 +97,32 @@ fn judge(malformed: bool, run: Run, periods: &[u32], weights: &[u32]) -> Refusal
 
 // Whether the text of a run and its sources, malformed now and then, is read as it is to be; and whether every fourth
 // is reported so.
-fn text_is(ledger: &mut [u64], run: Run, periods: &[u32], weights: &[u32], state: u64) -> bool {
+fn text_is(
+    ledger: &mut [u64],
+    run: Run,
+    periods: &[u32],
+    weights: &[u32],
+    phases: &[u32],
+    state: u64,
+) -> bool {
     let mut room = [0u8; 4200];
-    let right = spelling::put_text(&mut room, run, periods, weights);
+    let right = spelling::put_text(&mut room, run, periods, weights, phases, state);
     let end = spoil_end(&mut room, right, state);
-    let refusal = judge(end != right, run, periods, weights);
+    let refusal = judge(end != right, run, periods, weights, phases);
     let asked = state % 4 == 0;
-    let reported = reports::report_agrees(asked, &room, end, refusal, run, periods, weights);
-    let fine = reported && reads_first(&room, end, refusal);
+    let reported = reports::report_agrees(
+        asked,
+        &room,
+        end,
+        refusal,
+        run,
+        periods,
+        weights,
+        phases,
+    );
+    let fine = reported && reads_first(&room, end, refusal, run, periods, weights, phases);
     tally::count_limits(ledger, run, refusal, fine);
-    tally::count_sources(ledger, periods, weights, refusal, fine);
+    tally::count_sources(ledger, periods, weights, phases, refusal, fine);
     fine
 }
 
@@ -106,11 +133,12 @@ fn text_of(
     run: Run,
     periods: &mut [u32],
     weights: &mut [u32],
+    phases: &mut [u32],
     seldom: u32,
     state: u64,
 ) -> bool {
-    draw::draw_sources(periods, weights, case, state, seldom);
-    text_is(ledger, run, periods, weights, state >> 32)
+    draw::draw_sources(periods, weights, phases, case, state, seldom);
+    text_is(ledger, run, periods, weights, phases, state >> 32)
 }
 
 // A run from line 0 of 65,536 cells or just more, or the run as it was.
@@ -146,6 +174,7 @@ fn count_of(state: u64) -> usize {
 pub fn text_agrees(ledger: &mut [u64], case: Case, state: u64) -> bool {
     let mut periods = [0u32; 65];
     let mut weights = [0u32; 65];
+    let mut phases = [0u32; 65];
     let count = count_of(state >> 3);
     if 65 < count {
         return false;
@@ -156,34 +185,44 @@ pub fn text_agrees(ledger: &mut [u64], case: Case, state: u64) -> bool {
         draw::spoilt_run(sized_run(case.run, state >> 12), state >> 1),
         &mut periods[0..count],
         &mut weights[0..count],
+        &mut phases[0..count],
         draw::seldom(if count < 13 { 60 } else { 500 }, state >> 40),
         state,
     )
 }
 
-// A text of 4,096 bytes is read, and refused 12 for its sources; one of 4,097 bytes is refused 11.
-pub fn try_long(ledger: &mut [u64]) {
+// A text of 510 sources, the first with this period, of so many bytes, is refused with this number.
+fn try_length(ledger: &mut [u64], period: u32, bytes: usize, number: u8) {
     let mut room = [0u8; 4200];
     let mut periods = [1u32; 510];
     let weights = [1u32; 510];
+    let phases = [0u32; 510];
     let run = Run {
         window: 4,
         interval: 10,
         first: 1,
         last: 5,
     };
-    periods[0] = 1000;
-    let right = spelling::put_text(&mut room, run, &periods, &weights);
+    periods[0] = period;
+    let end = spelling::put_text(&mut room, run, &periods, &weights, &phases, 0);
     tally::count(
         ledger,
         tally::LONG_TEXTS,
-        right == 4096 && reads(&room[0..4096], plain(12)),
+        end == bytes
+            && reads_first(
+                &room,
+                bytes,
+                plain(number),
+                run,
+                &periods,
+                &weights,
+                &phases,
+            ),
     );
-    periods[0] = 10000;
-    let long = spelling::put_text(&mut room, run, &periods, &weights);
-    tally::count(
-        ledger,
-        tally::LONG_TEXTS,
-        long == 4097 && reads(&room[0..4097], plain(11)),
-    );
+}
+
+// A text of 4,096 bytes is read, and refused 12 for its sources; one of 4,097 bytes is refused 11.
+pub fn try_long(ledger: &mut [u64]) {
+    try_length(ledger, 1000, 4096, 12);
+    try_length(ledger, 10000, 4097, 11);
 }

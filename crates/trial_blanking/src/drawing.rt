@@ -35,12 +35,26 @@ fn draw_values(map: &mut [u8], seldom: u32, state: u64) {
 fn add_sources(case: Case, map: &mut [u8], state: u64) {
     let mut periods = [0u32; 3];
     let mut weights = [0u32; 3];
+    let mut phases = [0u32; 3];
     let count = up_to(state, 3) as usize;
     if 3 < count {
         return;
     }
-    draw::draw_sources(&mut periods, &mut weights, case, state, 4294967295);
-    map::add_to_map(case.run, &periods[0..count], &weights[0..count], map);
+    draw::draw_sources(
+        &mut periods,
+        &mut weights,
+        &mut phases,
+        case,
+        state,
+        4294967295,
+    );
+    map::add_to_map(
+        case.run,
+        &periods[0..count],
+        &weights[0..count],
+        &phases[0..count],
+        map,
+    );
 }
 
 // Draws the map of a case: of random values, of few, of very few, or of sources. It is 0 before.

@@ -23,7 +23,7 @@ fn run_of(first: u32, last: u32) -> Run {
 // 01's map: window 4, interval 10, lines 1 to 5, sources 7 60 and 3 200, onto a cleared map.
 fn example_map() -> [u8; 20] {
     let mut map = [0u8; 20];
-    map::add_to_map(run_of(1, 5), &[7, 3], &[60, 200], &mut map);
+    map::add_to_map(run_of(1, 5), &[7, 3], &[60, 200], &[0, 0], &mut map);
     map
 }
 

@@ -1,11 +1,12 @@
 // Random small runs and sources. They are drawn so that each kind of source comes often: a period below the window, equal to
-// it and above it, a remainder of 0, a large common factor of the period and the interval; and runs from line 0. Then a number here and
-// there is made one at which the table of refusals changes, so that faults come, and two at once: of both lines, and of sources in one
-// list too.
+// it and above it, a remainder of 0, a large common factor of the period and the interval, no phase and the largest; and runs from line 0.
+// Then a number here and there is made one at which the table of refusals changes, so that faults come, and two at once: of both lines,
+// and of sources in one list too.
 use crate::numbers;
 use crate::numbers::below;
 use crate::numbers::up_to;
 use scope::Run;
+use scope::Source;
 
 // A period up to the window, the window itself, one to six times a factor, or up to 200.
 fn period(state: u64, window: u32, factor: u32) -> u32 {
@@ -15,6 +16,15 @@ fn period(state: u64, window: u32, factor: u32) -> u32 {
         1 => window,
         2 => numbers::times(factor, up_to(s, 6)),
         _ => up_to(s, 200),
+    }
+}
+
+// A phase for a period: 0, the largest below it, or any.
+fn phase(state: u64, period: u32) -> u32 {
+    match state % 4 {
+        0 => 0,
+        1 => numbers::sub32(period, 1),
+        _ => below(state, period),
     }
 }
 
@@ -45,10 +55,10 @@ fn first_line(state: u64) -> u32 {
     }
 }
 
-// A run of at most 12 lines, and a period that its interval goes with.
+// A run of at most 12 lines, and a source that its interval goes with.
 pub struct Case {
     pub run: Run,
-    pub period: u32,
+    pub source: Source,
 }
 
 // A random case. All of it goes by the state alone.
@@ -58,6 +68,7 @@ pub fn draw_case(state: u64) -> Case {
     let window = window(a >> 9);
     let factor = up_to(b, 24);
     let period = period(b >> 9, window, factor);
+    let phase = phase(numbers::next(b), period);
     let first = first_line(a);
     Case {
         run: Run {
@@ -66,7 +77,7 @@ pub fn draw_case(state: u64) -> Case {
             first,
             last: numbers::add32(first, below(b, 12)),
         },
-        period,
+        source: Source { period, phase },
     }
 }
 
@@ -94,6 +105,25 @@ pub fn maybe(number: u32, state: u64, seldom: u32) -> u32 {
         return edge(state);
     }
     number
+}
+
+// The phase of a source; or, one time in so many, its period, which is just too large, or a number at which another test changes.
+fn spoilt_phase(source: Source, state: u64, seldom: u32) -> u32 {
+    if below(state, seldom) != 0 {
+        return source.phase;
+    }
+    match state % 2 {
+        0 => source.period,
+        _ => edge(state),
+    }
+}
+
+// A source with a fault in its period or its phase one time in so many, or in both.
+pub fn spoilt_source(source: Source, state: u64, seldom: u32) -> Source {
+    Source {
+        period: maybe(source.period, state, seldom),
+        phase: spoilt_phase(source, numbers::next(state), seldom),
+    }
 }
 
 // A number at which a test of the lines changes.
@@ -152,20 +182,39 @@ pub fn length(right: usize, step: usize, state: u64) -> usize {
     }
 }
 
-// Draws a source for each place of two lists, the first with the period of a case, with a fault one time in so many. Every third
-// repeats the period of the one before.
-pub fn draw_sources(periods: &mut [u32], weights: &mut [u32], case: Case, state: u64, seldom: u32) {
+// The source after another: every third has the period of the one before, with a phase of its own.
+fn source_after(before: Source, window: u32, place: usize, state: u64) -> Source {
+    let period = if place % 3 == 2 {
+        before.period
+    } else {
+        period(state >> 9, window, up_to(state, 24))
+    };
+    Source {
+        period,
+        phase: phase(state >> 21, period),
+    }
+}
+
+// Draws a source for each place of three lists, the first that of a case, with a fault one time in so many.
+pub fn draw_sources(
+    periods: &mut [u32],
+    weights: &mut [u32],
+    phases: &mut [u32],
+    case: Case,
+    state: u64,
+    seldom: u32,
+) {
     let all = periods.len();
-    let mut last = case.period;
+    let mut last = case.source;
     let mut s = state;
     let mut k: usize = 0;
     while k < all {
-        numbers::put_number(periods, k, maybe(last, s, seldom));
+        let drawn = spoilt_source(last, s, seldom);
+        numbers::put_number(periods, k, drawn.period);
+        numbers::put_number(phases, k, drawn.phase);
         s = numbers::next(s);
         numbers::put_number(weights, k, maybe(up_to(s, 255), s >> 7, seldom));
-        if k % 3 != 2 {
-            last = period(s >> 9, case.run.window, up_to(s, 24));
-        }
+        last = source_after(last, case.run.window, k, s);
         k += 1;
     }
 }

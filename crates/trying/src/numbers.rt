@@ -80,6 +80,14 @@ pub fn put_number(list: &mut [u32], at: usize, number: u32) {
     }
 }
 
+// The first numbers of a list, so many; all of them if there are fewer.
+pub fn first<'a>(list: &'a [u32], count: usize) -> &'a [u32] {
+    if list.len() < count {
+        return list;
+    }
+    &list[0..count]
+}
+
 // The number of 64 bits at a position of a list; 0 past its end.
 pub fn long_at(list: &[u64], at: usize) -> u64 {
     if at < list.len() { list[at] } else { 0 }

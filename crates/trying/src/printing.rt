@@ -1,4 +1,4 @@
-// What 01 has printed of a run and its sources, from a walk over all cells.
+// What 01 and 02 have printed of a run and its sources, from a walk over all cells.
 use crate::numbers;
 use crate::reference;
 use crate::reference::Refusal;
@@ -6,42 +6,59 @@ use crate::spelling;
 use crate::spelling::put_number;
 use crate::spelling::put_words;
 use scope::Run;
+use scope::Source;
 
 // How many cells a source hits, by marks that are 0 before.
-fn count_hits(run: Run, period: u32, marks: &mut [u8]) -> u32 {
-    reference::mark(run, period, marks);
+fn count_hits(run: Run, source: Source, marks: &mut [u8]) -> u32 {
+    reference::mark(run, source, marks);
     reference::count_above(marks)
 }
 
 // The same of a run of at most 1,024 cells.
-fn hits_of(run: Run, period: u32) -> u32 {
+fn hits_of(run: Run, source: Source) -> u32 {
     let mut marks = [0u8; 1024];
     let cells = reference::cells(run);
     if 1024 < cells {
         return 0;
     }
-    count_hits(run, period, &mut marks[0..cells])
+    count_hits(run, source, &mut marks[0..cells])
 }
 
-// Puts the line of a source: its place, period, weight, and how many cells it hits.
-fn put_source(room: &mut [u8], at: usize, run: Run, place: u32, period: u32, weight: u32) -> usize {
+// Puts the line of a source: its place, period, weight, phase, and how many cells it hits.
+fn put_source(
+    room: &mut [u8],
+    at: usize,
+    run: Run,
+    place: u32,
+    source: Source,
+    weight: u32,
+) -> usize {
     let a = put_words(room, at, b"src");
     let b = put_number(room, a, place);
-    let c = put_number(room, b, period);
+    let c = put_number(room, b, source.period);
     let d = put_number(room, c, weight);
-    let e = put_number(room, d, hits_of(run, period));
-    put_words(room, e, b"\n")
+    let e = put_number(room, d, source.phase);
+    let f = put_number(room, e, hits_of(run, source));
+    put_words(room, f, b"\n")
 }
 
 // Puts the lines of all sources.
-fn put_sources(room: &mut [u8], at: usize, run: Run, periods: &[u32], weights: &[u32]) -> usize {
+fn put_sources(
+    room: &mut [u8],
+    at: usize,
+    run: Run,
+    periods: &[u32],
+    weights: &[u32],
+    phases: &[u32],
+) -> usize {
     let all = periods.len();
     let mut next = at;
     let mut k: usize = 0;
     while k < all {
         let place = numbers::low32(k as u64 + 1);
         let weight = numbers::number_at(weights, k);
-        next = put_source(room, next, run, place, periods[k], weight);
+        let source = reference::source_at(periods, phases, k);
+        next = put_source(room, next, run, place, source, weight);
         k += 1;
     }
     next
@@ -85,9 +102,16 @@ fn put_end(room: &mut [u8], at: usize, count: u32) -> usize {
 }
 
 // Puts the whole report on a run, its sources and their map.
-fn put_report(room: &mut [u8], run: Run, periods: &[u32], weights: &[u32], map: &[u8]) -> usize {
+fn put_report(
+    room: &mut [u8],
+    run: Run,
+    periods: &[u32],
+    weights: &[u32],
+    phases: &[u32],
+    map: &[u8],
+) -> usize {
     let first = put_run(room, run);
-    let sources = put_sources(room, first, run, periods, weights);
+    let sources = put_sources(room, first, run, periods, weights, phases);
     let cells = put_cells(room, sources, map);
     put_end(room, cells, reference::count_above(map))
 }
@@ -111,11 +135,12 @@ pub fn put_answer(
     run: Run,
     periods: &[u32],
     weights: &[u32],
+    phases: &[u32],
     map: &mut [u8],
 ) -> usize {
     if refusal.number != 0 {
         return put_refusal(room, refusal);
     }
-    reference::expect_map(refusal, run, periods, weights, map);
-    put_report(room, run, periods, weights, map)
+    reference::expect_map(refusal, run, periods, weights, phases, map);
+    put_report(room, run, periods, weights, phases, map)
 }

@@ -1,7 +1,8 @@
-// What 01 says of hits, of the map and of a listing, worked out for each cell by itself, and the table of refusals as 01 and 02 have
-// it. Of the library only the type of a run is used here, and no code.
+// What 01 and 02 say of hits, of the map and of a listing, worked out for each cell by itself, and the table of refusals as they have
+// it. Of the library only the types of a run and a source are used here, and no code.
 use crate::numbers;
 use scope::Run;
+use scope::Source;
 
 // A refusal: its number, or 0 for none, and the place in its list of the source that it concerns, counted from 1, or 0 for none.
 pub struct Refusal {
@@ -9,14 +10,14 @@ pub struct Refusal {
     pub place: u64,
 }
 
-// Source p hits cell (i, j) exactly when p divides T·j - i: when T·j + I/2 and i + I/2 leave the same remainder.
-fn is_hit(run: Run, period: u32, cell: u64) -> bool {
+// Source p with phase s hits cell (i, j) exactly when p divides T·j - i - s: when T·j + I/2 and i + I/2 + s leave the same remainder.
+fn is_hit(run: Run, source: Source, cell: u64) -> bool {
     let window = run.window as u64;
     let line = numbers::add32(run.first, numbers::low32(numbers::quotient(cell, window)));
     let tick = numbers::product(run.interval, line);
-    let p = period as u64;
-    numbers::rest(numbers::add(tick, window / 2), p)
-        == numbers::rest(numbers::rest(cell, window), p)
+    let p = source.period as u64;
+    let later = numbers::add(numbers::rest(cell, window), source.phase as u64);
+    numbers::rest(numbers::add(tick, window / 2), p) == numbers::rest(later, p)
 }
 
 // How many cells a run has: its window times its lines.
@@ -30,13 +31,21 @@ pub fn same_run(a: Run, b: Run) -> bool {
     a.window == b.window && a.interval == b.interval && a.first == b.first && a.last == b.last
 }
 
+// The source at a place of the lists, counted from 0.
+pub fn source_at(periods: &[u32], phases: &[u32], k: usize) -> Source {
+    Source {
+        period: numbers::number_at(periods, k),
+        phase: numbers::number_at(phases, k),
+    }
+}
+
 // What the sources that hit a cell weigh together.
-fn weight_at(run: Run, periods: &[u32], weights: &[u32], cell: u64) -> u32 {
+fn weight_at(run: Run, periods: &[u32], weights: &[u32], phases: &[u32], cell: u64) -> u32 {
     let all = periods.len();
     let mut sum: u32 = 0;
     let mut k: usize = 0;
     while k < all {
-        if is_hit(run, periods[k], cell) {
+        if is_hit(run, source_at(periods, phases, k), cell) {
             sum = numbers::add32(sum, numbers::number_at(weights, k));
         }
         k += 1;
@@ -46,7 +55,14 @@ fn weight_at(run: Run, periods: &[u32], weights: &[u32], cell: u64) -> u32 {
 
 // Makes a map what it is to be after all sources are added: a walk over all cells. With one source of weight 1, on zeros, it marks
 // the hits. With a refusal the map stays as it is.
-pub fn expect_map(refusal: Refusal, run: Run, periods: &[u32], weights: &[u32], map: &mut [u8]) {
+pub fn expect_map(
+    refusal: Refusal,
+    run: Run,
+    periods: &[u32],
+    weights: &[u32],
+    phases: &[u32],
+    map: &mut [u8],
+) {
     if refusal.number != 0 {
         return;
     }
@@ -55,7 +71,7 @@ pub fn expect_map(refusal: Refusal, run: Run, periods: &[u32], weights: &[u32], 
     while x < all {
         let sum = numbers::add32(
             numbers::byte_at(map, x) as u32,
-            weight_at(run, periods, weights, x as u64),
+            weight_at(run, periods, weights, phases, x as u64),
         );
         numbers::put_byte(map, x, numbers::low8(numbers::least(255, sum) as u64));
         x += 1;
@@ -63,9 +79,10 @@ pub fn expect_map(refusal: Refusal, run: Run, periods: &[u32], weights: &[u32], 
 }
 
 // Marks the cells that a source hits. The marks are 0 before.
-pub fn mark(run: Run, period: u32, marks: &mut [u8]) {
-    let source = [period];
-    expect_map(plain(0), run, &source, &[1], marks);
+pub fn mark(run: Run, source: Source, marks: &mut [u8]) {
+    let period = [source.period];
+    let phase = [source.phase];
+    expect_map(plain(0), run, &period, &[1], &phase, marks);
 }
 
 // How many cells of a map are above 0.
@@ -181,17 +198,39 @@ pub fn judge_period(period: u32) -> Refusal {
     when(period == 0 || 2147483647 < period, 4)
 }
 
-// 4 before 7: the period, then the weight 0 or above 255.
-fn judge_source(period: u32, weight: u32) -> Refusal {
-    first_of(judge_period(period), when(weight == 0 || 255 < weight, 7))
+// 22: phase not below period.
+fn judge_phase(source: Source) -> Refusal {
+    when(source.period <= source.phase, 22)
 }
 
-// 4 before 7, source by source, with the place of the source.
-pub fn judge_sources(periods: &[u32], weights: &[u32]) -> Refusal {
+// 4 before 22: a source with no weight.
+pub fn judge_source(source: Source) -> Refusal {
+    first_of(judge_period(source.period), judge_phase(source))
+}
+
+// 4 before 7 before 22: the period, then the weight 0 or above 255, then the phase.
+fn judge_weighted(source: Source, weight: u32) -> Refusal {
+    let heavy = when(weight == 0 || 255 < weight, 7);
+    first_of(
+        judge_period(source.period),
+        first_of(heavy, judge_phase(source)),
+    )
+}
+
+// The same of the source at a place of the lists, counted from 0.
+fn judge_at(periods: &[u32], weights: &[u32], phases: &[u32], k: usize) -> Refusal {
+    judge_weighted(
+        source_at(periods, phases, k),
+        numbers::number_at(weights, k),
+    )
+}
+
+// 4 before 7 before 22, source by source, with the place of the source.
+pub fn judge_sources(periods: &[u32], weights: &[u32], phases: &[u32]) -> Refusal {
     let all = periods.len();
     let mut k: usize = 0;
     while k < all {
-        let said = judge_source(periods[k], numbers::number_at(weights, k));
+        let said = judge_at(periods, weights, phases, k);
         if said.number != 0 {
             return Refusal {
                 number: said.number,
@@ -204,12 +243,12 @@ pub fn judge_sources(periods: &[u32], weights: &[u32]) -> Refusal {
 }
 
 // How many sources of a list are at fault.
-pub fn count_at_fault(periods: &[u32], weights: &[u32]) -> u32 {
+pub fn count_at_fault(periods: &[u32], weights: &[u32], phases: &[u32]) -> u32 {
     let all = periods.len();
     let mut count: u32 = 0;
     let mut k: usize = 0;
     while k < all {
-        let said = judge_source(periods[k], numbers::number_at(weights, k));
+        let said = judge_at(periods, weights, phases, k);
         count = numbers::add32(count, (said.number != 0) as u32);
         k += 1;
     }

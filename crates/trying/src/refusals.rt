@@ -25,6 +25,7 @@ fn number_of(reason: Reason) -> u8 {
         Reason::Threshold => 19,
         Reason::Guard => 20,
         Reason::StretchRoom => 21,
+        Reason::Phase => 22,
     }
 }
 

@@ -1,6 +1,8 @@
-// The text of a run and its sources, as 01 has it.
+// The text of a run and its sources, as 01 and 02 have it.
 use crate::numbers;
+use crate::reference;
 use scope::Run;
+use scope::Source;
 
 // Puts words at a position of a room, and answers the one after them.
 pub fn put_words(room: &mut [u8], at: usize, words: &[u8]) -> usize {
@@ -31,22 +33,42 @@ pub fn put_run(room: &mut [u8], run: Run) -> usize {
     put_number(room, d, run.last)
 }
 
-// Puts a `src` line.
-fn put_source(room: &mut [u8], at: usize, period: u32, weight: u32) -> usize {
-    let a = put_words(room, at, b"src");
-    let b = put_number(room, a, period);
-    let c = put_number(room, b, weight);
-    put_words(room, c, b"\n")
+// Puts a phase; or nothing, where it is 0 and is to be left out.
+fn put_phase(room: &mut [u8], at: usize, phase: u32, left_out: bool) -> usize {
+    if phase == 0 && left_out {
+        return at;
+    }
+    put_number(room, at, phase)
 }
 
-// Puts the text of a run and its sources, and answers its end.
-pub fn put_text(room: &mut [u8], run: Run, periods: &[u32], weights: &[u32]) -> usize {
+// Puts a `src` line.
+fn put_source(room: &mut [u8], at: usize, source: Source, weight: u32, left_out: bool) -> usize {
+    let a = put_words(room, at, b"src");
+    let b = put_number(room, a, source.period);
+    let c = put_number(room, b, weight);
+    let d = put_phase(room, c, source.phase, left_out);
+    put_words(room, d, b"\n")
+}
+
+// Puts the text of a run and its sources, and answers its end. A phase of 0 is left out one time in two, as the state has it.
+pub fn put_text(
+    room: &mut [u8],
+    run: Run,
+    periods: &[u32],
+    weights: &[u32],
+    phases: &[u32],
+    state: u64,
+) -> usize {
     let count = periods.len();
     let line = put_run(room, run);
     let mut next = put_words(room, line, b"\n");
+    let mut s = state;
     let mut k: usize = 0;
     while k < count {
-        next = put_source(room, next, periods[k], numbers::number_at(weights, k));
+        let source = reference::source_at(periods, phases, k);
+        let weight = numbers::number_at(weights, k);
+        next = put_source(room, next, source, weight, s >> 20 & 1 == 0);
+        s = numbers::next(s);
         k += 1;
     }
     next

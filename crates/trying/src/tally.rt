@@ -60,6 +60,16 @@ pub const RUNS_FROM_ZERO: usize = 25;
 
 pub const LAST_CELL: usize = 26;
 
+pub const PHASE_EXAMPLES: usize = 27;
+
+pub const PHASE_LISTED: usize = 28;
+
+pub const PHASE_REFUSED: usize = 29;
+
+pub const PHASED: usize = 30;
+
+pub const SINGLE_PHASED: usize = 31;
+
 // A list of counts, all 0.
 pub fn ledger() -> [u64; 64] {
     [0; 64]
@@ -100,10 +110,11 @@ pub fn count_sources(
     ledger: &mut [u64],
     periods: &[u32],
     weights: &[u32],
+    phases: &[u32],
     refusal: Refusal,
     fine: bool,
 ) {
-    let two = 2 <= reference::count_at_fault(periods, weights);
+    let two = 2 <= reference::count_at_fault(periods, weights, phases);
     count_if(ledger, two && refusal.place != 0, TWO_SOURCES, fine);
 }
 

@@ -82,7 +82,7 @@ pair-is-basis {p} {r} {I} {left} {right} h i j lies =
       line = whole-line (s .k) (s .k′) (s .l) (s .l′) (left .line) (right .line) (int j) (s .lines);
     })
 
--- "the only hits in the window are at offset 0, on multiples of p/g"
+-- "the only hits in the window are at offset 0, on multiples of p/g": of the lattice itself, which is a source at phase 0
 pub only-zero : {p r I g : ℕ} → 0 < p → IsGcd g r p → I ≤ g → (v : Vector) → negℤ (pos (I / 2)) ≤ℤ v .offset → v .offset <ℤ pos (I / 2) → InLattice p r v ↔ ((v .offset ≡ pos 0) × (p / g ∣ v .line))
 only-zero {p} {r} {I} {g} some is wide v low high = (to, from)
   where

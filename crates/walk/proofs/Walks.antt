@@ -14,8 +14,10 @@ use mir.Syntax.{w64}
 use mir.Val.{SFits, toZ, ofZ}
 use mir.Facts.{toZ-ofZ}
 use Rattle.signed.proofs.Parts.{parts, sum, apart, neg-up, neg-dn, ltZ-true, ltZ-false}
-use Rattle.lattice.proofs.Congruence.{cong-mod, cong-sym, cong-trans, cong-below}
+use Rattle.lattice.proofs.Congruence.{cong-mod, cong-below}
+use Rattle.lattice.proofs.Differences.{on-cong}
 use Rattle.lattice.proofs.First.{Next}
+use Rattle.lattice.proofs.Row.{on-apart}
 use Rattle.scope.specs.declared.Run.{Run}
 use Rattle.scope.specs.declared.Source.{Source}
 use Rattle.scope.specs.Run.{ValidRun, ValidSource, lineOf, offsetOf}
@@ -30,7 +32,7 @@ use Rattle.search.proofs.Cells.{Points, rows-le, hit-point, miss-point, point-h
 
 -- the first point of a line, from any of its points
 pub first-point : (run : Run) (source : Source) {d j : ℕ} → Points run source d j → Points run source (d % source .period) j
-first-point run source {d} o = record { cong = cong-trans (cong-mod (source .period) d) (o .cong) }
+first-point run source {d} o = on-apart (cong-mod (source .period) d) o
 
 -- ---- where a step leads
 
@@ -76,7 +78,7 @@ module _ {run : Run} (v : ValidRun run) {source : Source} (s : ValidSource sourc
       let past = next .least (run .first + z / run .window - (run .first + at .cell .0 / run .window)) (z % run .window % source .period) (omega arith) (omega arith) w in
       let low = rows-le {k = z / run .window} {l = at .cell .0 / run .window + Y} inside (omega (arith, is, div-add-mod' z (run .window))) in
       let same : z / run .window ≡ at .cell .0 / run .window + Y = omega arith in
-      let alike = cong-below (cong-trans (first-point run source o .cong) (cong-sym (subst (λ x. Points run source e (run .first + x)) (sym same) there .cong))) zp (omega (arith, next .inside)) in
+      let alike = cong-below (on-cong (first-point run source o) (subst (λ x. Points run source e (run .first + x)) (sym same) there)) zp (omega (arith, next .inside)) in
       omega (arith, is, div-add-mod' z (run .window), ap (λ x. x * run .window) same))
 
   landed : to .offset ≡ pos e -ℤ pos (run .window / 2) → NextLine run source at to

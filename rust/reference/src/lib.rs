@@ -1,7 +1,8 @@
-//! Document 01, with the requests E1 to E3 of 02, once more: written from their text and not from the library's code. Hits
-//! are found by looking at every cell, or in long runs at every line; step vectors by trying all vectors, or for long periods
-//! by 01's conditions on what was answered; stretches by looking at every cell. The numbers of runs, cells, vectors and guards
-//! are i128. An answer is `Ok`, a refusal `Err`.
+//! Document 01, with the requests E1 to E3 and E5 of 02, once more: written from their text and not from the library's code.
+//! Hits are found by looking at every cell, or in long runs at every line; step vectors by trying all vectors, or for long
+//! periods by 01's conditions on what was answered; stretches by looking at every cell. The numbers of runs, sources, cells,
+//! vectors and guards are i128. An answer is `Ok`, a refusal `Err`.
+use std::ops::RangeInclusive;
 
 #[derive(Clone, Copy, Debug, PartialEq, Eq)]
 pub struct Run {
@@ -9,6 +10,13 @@ pub struct Run {
     pub interval: i128,
     pub first: i128,
     pub last: i128,
+}
+
+/// "A source has a period p and a weight"; it "gets a third number, its phase s" (E5). The weight stands beside it in lists.
+#[derive(Clone, Copy, Debug, PartialEq, Eq)]
+pub struct Source {
+    pub period: i128,
+    pub phase: i128,
 }
 
 /// "A refusal carries the reason and, where it concerns a source, that place."
@@ -49,11 +57,24 @@ fn judge_weight(weight: i128) -> Reply<()> {
     refuse_if(weight == 0 || weight > 255, 7)
 }
 
+/// "22 phase not below period."
+fn judge_phase(source: Source) -> Reply<()> {
+    refuse_if(source.phase >= source.period, 22)
+}
+
+/// 22 comes "after 4 where no weight is given".
+fn judge_source(source: Source) -> Reply<()> {
+    judge_period(source.period)?;
+    judge_phase(source)
+}
+
 /// "Where a source in a list is at fault (4 or 7 so far) they also want its place, counted from 1": source by source, 4
-/// before 7.
-fn judge_sources(sources: &[(i128, i128)]) -> Reply<()> {
-    for (place, &(period, weight)) in (1..).zip(sources) {
-        let judged = judge_period(period).and(judge_weight(weight));
+/// before 7, and 22 "after 7 in each source".
+fn judge_sources(sources: &[(Source, i128)]) -> Reply<()> {
+    for (place, &(source, weight)) in (1..).zip(sources) {
+        let judged = judge_period(source.period)
+            .and(judge_weight(weight))
+            .and(judge_phase(source));
         let place = Some(place);
         judged.map_err(|refusal| Refusal { place, ..refusal })?;
     }
@@ -73,27 +94,28 @@ impl Run {
         self.window * (self.last - self.first + 1)
     }
 
-    /// "Source p hits cell (i, j) exactly when p divides T·j - i", of the cell with number x.
-    pub fn is_hit(&self, period: i128, x: i128) -> bool {
+    /// "It hits (i, j) exactly when p divides T·j - i - s", of the cell with number x.
+    pub fn is_hit(&self, source: Source, x: i128) -> bool {
         let line = self.first + x / self.window;
         let offset = x % self.window - self.window / 2;
-        (self.interval * line - offset) % period == 0
+        (self.interval * line - offset - source.phase) % source.period == 0
     }
 
     /// All hit cells, in rising order: a walk over all cells.
-    pub fn hits(&self, period: i128) -> Vec<i128> {
+    pub fn hits(&self, source: Source) -> Vec<i128> {
         (0..self.cells())
-            .filter(|&x| self.is_hit(period, x))
+            .filter(|&x| self.is_hit(source, x))
             .collect()
     }
 
     /// The same for long runs: on each line, the first offset that is hit, and from there in steps of p.
-    pub fn hits_by_line(&self, period: i128) -> Vec<i128> {
+    pub fn hits_by_line(&self, source: Source) -> Vec<i128> {
+        let Source { period, phase } = source;
         let mut hits = Vec::new();
         for line in self.first..=self.last {
             let left = -self.window / 2;
             let base = (line - self.first) * self.window;
-            let mut distance = (self.interval * line - left).rem_euclid(period);
+            let mut distance = (self.interval * line - left - phase).rem_euclid(period);
             while distance < self.window {
                 hits.push(base + distance);
                 distance += period;
@@ -179,24 +201,24 @@ pub fn are_steps(p: i128, r: i128, window: i128, steps: &Reply<Steps>) -> bool {
     }
 }
 
-fn judge_start(run: &Run, period: i128, start: i128) -> Reply<()> {
+fn judge_start(run: &Run, source: Source, start: i128) -> Reply<()> {
     run.judge()?;
-    judge_period(period)?;
+    judge_source(source)?;
     refuse_if(start >= run.cells(), 8)
 }
 
-/// The hits of a source in a run that is within the limits, else none.
-pub fn hits_of(run: &Run, period: i128) -> Vec<i128> {
-    if run.judge().is_ok() && judge_period(period).is_ok() {
-        run.hits(period)
+/// The hits of a source in a run, both of them within the limits, else none.
+pub fn hits_of(run: &Run, source: Source) -> Vec<i128> {
+    if run.judge().is_ok() && judge_source(source).is_ok() {
+        run.hits(source)
     } else {
         Vec::new()
     }
 }
 
 /// The first hit, given all hits of the source in the run.
-pub fn first_hit(run: &Run, period: i128, start: i128, hits: &[i128]) -> Reply<Option<i128>> {
-    judge_start(run, period, start)?;
+pub fn first_hit(run: &Run, source: Source, start: i128, hits: &[i128]) -> Reply<Option<i128>> {
+    judge_start(run, source, start)?;
     Ok(hits[hits.partition_point(|&x| x < start)..]
         .first()
         .copied())
@@ -205,12 +227,12 @@ pub fn first_hit(run: &Run, period: i128, start: i128, hits: &[i128]) -> Reply<O
 /// The count written and the next hit, and what the room then holds.
 pub fn list_hits(
     run: &Run,
-    period: i128,
+    source: Source,
     start: i128,
     room: &mut [u64],
     hits: &[i128],
 ) -> Reply<(usize, Option<i128>)> {
-    judge_start(run, period, start)?;
+    judge_start(run, source, start)?;
     refuse_if(room.is_empty(), 9)?;
     let from = &hits[hits.partition_point(|&x| x < start)..];
     let count = from.len().min(room.len());
@@ -220,23 +242,33 @@ pub fn list_hits(
     Ok((count, from.get(count).copied()))
 }
 
-/// The map afterwards. `hits` gives the hits of each period, for runs of a length of the caller's choice.
+/// "The source lists carry phases beside periods and weights", all of one length: each source with its weight.
+fn sources_of(periods: &[u32], weights: &[u32], phases: &[u32]) -> Vec<(Source, i128)> {
+    let source = |k: usize| {
+        let (period, phase) = (periods[k] as i128, phases[k] as i128);
+        (Source { period, phase }, weights[k] as i128)
+    };
+    (0..periods.len()).map(source).collect()
+}
+
+/// The map afterwards. `hits` gives the hits of each source, for runs of a length of the caller's choice.
 pub fn add_to_map(
     run: &Run,
     periods: &[u32],
     weights: &[u32],
+    phases: &[u32],
     map: &mut [u8],
-    hits: impl Fn(&Run, i128) -> Vec<i128>,
+    hits: impl Fn(&Run, Source) -> Vec<i128>,
 ) -> Reply<()> {
     run.judge()?;
-    refuse_if(periods.len() != weights.len(), 10)?;
-    let source = |(&period, &weight): (&u32, &u32)| (period as i128, weight as i128);
-    let sources: Vec<_> = periods.iter().zip(weights).map(source).collect();
+    let count = periods.len();
+    refuse_if(weights.len() != count || phases.len() != count, 10)?;
+    let sources = sources_of(periods, weights, phases);
     judge_sources(&sources)?;
     refuse_if(map.len() as i128 != run.cells(), 9)?;
     let mut sums: Vec<u64> = map.iter().map(|&cell| cell as u64).collect();
-    for (period, weight) in sources {
-        for x in hits(run, period) {
+    for (source, weight) in sources {
+        for x in hits(run, source) {
             sums[x as usize] += weight as u64;
         }
     }
@@ -393,39 +425,45 @@ fn decimal(word: &str) -> Option<i128> {
     word.parse().ok().filter(|&number| number <= 4_294_967_295)
 }
 
-/// The numbers of a line that is this keyword and so many numbers, with single spaces.
-fn numbers(line: &str, keyword: &str, count: usize) -> Option<Vec<i128>> {
+/// The numbers of a line that is this keyword and as many numbers as it may have, with single spaces.
+fn numbers(line: &str, keyword: &str, counts: RangeInclusive<usize>) -> Option<Vec<i128>> {
     let mut words = line.split(' ');
     if words.next() != Some(keyword) {
         return None;
     }
     let numbers: Option<Vec<i128>> = words.map(decimal).collect();
-    numbers.filter(|numbers| numbers.len() == count)
+    numbers.filter(|numbers| counts.contains(&numbers.len()))
+}
+
+/// "The text line becomes `src period weight phase`, and a line without it means phase 0."
+fn source(line: &str) -> Option<(Source, i128)> {
+    let numbers = numbers(line, "src", 2..=3)?;
+    let source = Source {
+        period: numbers[0],
+        phase: numbers.get(2).copied().unwrap_or(0),
+    };
+    Some((source, numbers[1]))
 }
 
 /// What a text of the form says, before any limit is looked at.
-fn parse(text: &[u8]) -> Option<(Run, Vec<(i128, i128)>)> {
+fn parse(text: &[u8]) -> Option<(Run, Vec<(Source, i128)>)> {
     if text.len() > 4096 {
         return None;
     }
     let lines = std::str::from_utf8(text).ok()?.strip_suffix('\n')?;
     let mut lines = lines.split('\n');
-    let run = numbers(lines.next()?, "run", 4)?;
+    let run = numbers(lines.next()?, "run", 4..=4)?;
     let run = Run {
         window: run[0],
         interval: run[1],
         first: run[2],
         last: run[3],
     };
-    let mut sources = Vec::new();
-    for line in lines {
-        let source = numbers(line, "src", 2)?;
-        sources.push((source[0], source[1]));
-    }
-    Some((run, sources))
+    let sources: Option<Vec<_>> = lines.map(source).collect();
+    Some((run, sources?))
 }
 
-pub fn read_text(text: &[u8]) -> Reply<(Run, Vec<(i128, i128)>)> {
+pub fn read_text(text: &[u8]) -> Reply<(Run, Vec<(Source, i128)>)> {
     let (run, sources) = parse(text).ok_or(Refusal::alone(11))?;
     run.judge()?;
     refuse_if(sources.len() > 64 || run.cells() > 65_536, 12)?;

@@ -67,6 +67,7 @@ pub struct TextReply {
     pub count: usize,
     pub periods: [u32; 64],
     pub weights: [u32; 64],
+    pub phases: [u32; 64],
 }
 
 extern "C" {
@@ -78,6 +79,7 @@ extern "C" {
         first: u32,
         last: u32,
         period: u32,
+        phase: u32,
         start: u64,
     ) -> FirstHitReply;
 
@@ -87,6 +89,7 @@ extern "C" {
         first: u32,
         last: u32,
         period: u32,
+        phase: u32,
         start: u64,
         room: *mut u64,
         room_length: usize,
@@ -101,6 +104,8 @@ extern "C" {
         periods_length: usize,
         weights: *const u32,
         weights_length: usize,
+        phases: *const u32,
+        phases_length: usize,
         map: *mut u8,
         map_length: usize,
     ) -> AddedReply;

@@ -20,6 +20,13 @@ pub struct Run {
     pub last: u32,
 }
 
+/// A source, less its weight: it has an edge at its phase, and whole periods before and after it.
+#[derive(Clone, Copy, Debug, PartialEq, Eq)]
+pub struct Source {
+    pub period: u32,
+    pub phase: u32,
+}
+
 /// A vector of the lattice: ticks of offset, to the right or (below 0) to the left, and lines on.
 #[derive(Clone, Copy, Debug, PartialEq, Eq)]
 pub struct Vector {
@@ -58,11 +65,11 @@ pub struct Guard {
     pub highest: i64,
 }
 
-/// What a text says: a run, and its sources by period and weight.
+/// What a text says: a run, and its sources, each with its weight.
 #[derive(Clone, Debug, PartialEq, Eq)]
 pub struct Input {
     pub run: Run,
-    pub sources: Vec<(u32, u32)>,
+    pub sources: Vec<(Source, u32)>,
 }
 
 /// A refusal: its number and, where a source of a list is at fault, the source's place there, counted from 1.
@@ -83,7 +90,7 @@ fn reason(number: u8) -> &'static str {
         7 => "a weight is 0 or above 255",
         8 => "the starting cell is not in the run",
         9 => "the listing room is empty, or the map or the file room is not of the exact length",
-        10 => "the period list and the weight list are of unequal length",
+        10 => "the lists of periods, weights and phases are not all of one length",
         11 => "the text is not of the form laid down",
         12 => "the text has more than 64 sources, or a run of more than 65,536 cells",
         13 => "the file has no whole number of blocks, none, or not as many as its run needs",
@@ -94,6 +101,7 @@ fn reason(number: u8) -> &'static str {
         19 => "the threshold is 0",
         20 => "the guard reaches outside the window or is upside down",
         21 => "the room holds fewer stretches than there are",
+        22 => "a phase is not below its period",
         _ => "unknown reason",
     }
 }
@@ -147,9 +155,17 @@ pub fn step_vectors(period: u32, remainder: u32, window: u32) -> Result<Steps, R
 }
 
 /// The smallest hit cell of a run that is not below the start.
-pub fn first_hit(run: Run, period: u32, start: u64) -> Result<FirstHit, Refusal> {
+pub fn first_hit(run: Run, source: Source, start: u64) -> Result<FirstHit, Refusal> {
     let reply = unsafe {
-        zenithgong_first_hit(run.window, run.interval, run.first, run.last, period, start)
+        zenithgong_first_hit(
+            run.window,
+            run.interval,
+            run.first,
+            run.last,
+            source.period,
+            source.phase,
+            start,
+        )
     };
     let hit = if reply.found == 1 {
         FirstHit::At(reply.cell)
@@ -160,14 +176,20 @@ pub fn first_hit(run: Run, period: u32, start: u64) -> Result<FirstHit, Refusal>
 }
 
 /// Writes the hit cells of a run that are not below the start into a room, in rising order.
-pub fn list_hits(run: Run, period: u32, start: u64, room: &mut [u64]) -> Result<Listing, Refusal> {
+pub fn list_hits(
+    run: Run,
+    source: Source,
+    start: u64,
+    room: &mut [u64],
+) -> Result<Listing, Refusal> {
     let reply = unsafe {
         zenithgong_list_hits(
             run.window,
             run.interval,
             run.first,
             run.last,
-            period,
+            source.period,
+            source.phase,
             start,
             room.as_mut_ptr(),
             room.len(),
@@ -185,6 +207,7 @@ pub fn add_to_map(
     run: Run,
     periods: &[u32],
     weights: &[u32],
+    phases: &[u32],
     map: &mut [u8],
 ) -> Result<(), Refusal> {
     let reply = unsafe {
@@ -197,6 +220,8 @@ pub fn add_to_map(
             periods.len(),
             weights.as_ptr(),
             weights.len(),
+            phases.as_ptr(),
+            phases.len(),
             map.as_mut_ptr(),
             map.len(),
         )
@@ -281,6 +306,8 @@ pub fn read_text(text: &[u8]) -> Result<Input, Refusal> {
     let sources = reply
         .periods
         .into_iter()
+        .zip(reply.phases)
+        .map(|(period, phase)| Source { period, phase })
         .zip(reply.weights)
         .take(reply.count)
         .collect();

@@ -11,7 +11,7 @@ tell-text-place-requires : tie.Need-tell-text-place-requires
 tell-text-place-requires c κs = search needs
 
 returns : tie.Need-returns
-returns c = simp (c .before .before .before .tell-answer .ensures, c .before .before .tell-text-place .ensures)
+returns c = simp (c .before .before .before .before .tell-answer .ensures, c .before .before .before .tell-text-place .ensures)
 
 pub tell-text-spec : {M : Type 1} → statement M
 tell-text-spec = tie.close (tie.spec tell-answer-requires tell-text-place-requires returns)

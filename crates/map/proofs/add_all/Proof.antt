@@ -38,19 +38,19 @@ div-add-blocks c = search needs
 
 add-blocks-requires : tie.Need-add-blocks-requires
 add-blocks-requires c κs =
-    let p = c .before .before .before .before .before .before .before .before .pre in
+    let p = c .before .before .before .before .before .before .before .before .before .pre in
     (p, some-lines (p .valid .narrow) (p .valid .wide))
 
 add-chosen-requires : tie.Need-add-chosen-requires
 add-chosen-requires c κs =
-    let p = c .before .before .before .before .before .before .before .before .before .before .before .before .pre in
-    record { valid = p .valid; equal = p .equal; sound = p .sound; whole = c .before .before .before .add-blocks .kept .1 .1 .1 .1 .1 .0 ∙ p .whole }
+    let p = c .before .before .before .before .before .before .before .before .before .before .before .before .before .pre in
+    record { valid = p .valid; equal = p .equal; sound = p .sound; whole = c .before .before .before .add-blocks .kept .1 .1 .1 .1 .1 .1 .0 ∙ p .whole }
 
 same-length : tie.Need-same-length
 same-length c = search needs
 
 returns : tie.Need-returns
-returns c = in-two _ _ _ (c .before .before .before .before .before .before .before .before .before .before .before .before .before .before .before .pre .sound) (c .before .before .before .before .before .before .add-blocks .ensures) (c .before .before .add-chosen .ensures)
+returns c = in-two _ _ _ (c .before .before .before .before .before .before .before .before .before .before .before .before .before .before .before .before .pre .sound) (c .before .before .before .before .before .before .add-blocks .ensures) (c .before .before .add-chosen .ensures)
 
 add-chosen-requires-2 : tie.Need-add-chosen-requires-2
 add-chosen-requires-2 c κs = search needs
@@ -59,7 +59,7 @@ same-length-2 : tie.Need-same-length-2
 same-length-2 c = search needs
 
 returns-2 : tie.Need-returns-2
-returns-2 c = at-once _ _ _ (c .before .before .before .before .before .before .before .before .pre .sound) (c .before .before .add-chosen2 .ensures)
+returns-2 c = at-once _ _ _ (c .before .before .before .before .before .before .before .before .before .pre .sound) (c .before .before .add-chosen2 .ensures)
 
 pub add-all-spec : {M : Type 1} → statement M
 add-all-spec =

@@ -86,13 +86,13 @@ module _ {run : Run} {entries : List Entry} {old map : List ℕ} {first : ℕ} (
       ends (so-far .done) (omega (arith, so-far .cells-are))
 
 abbrev Inv-loop : tie.InvT-loop
-Inv-loop run periods weights high lines map₀ first₀ map first = Blocks run (chosen 0 high (entriesOf periods weights)) map₀ map first
+Inv-loop run periods weights phases high lines map₀ first₀ map first = Blocks run (chosen 0 high (entriesOf periods weights phases)) map₀ map first
 
 abbrev μ-loop : tie.MeasureT-loop
-μ-loop run periods weights high lines map₀ first₀ map first = suc (run .last) - first
+μ-loop run periods weights phases high lines map₀ first₀ map first = suc (run .last) - first
 
 -- the part of the map that is lent, once its end is known
-lent : (c : tie.After-in-run2 Inv-loop μ-loop) → Part (c .before .before .before .before .before .before .before .before .before .before .args .run) (c .before .before .before .block-from .result) (c .before .before .before .before .before .before .loop .first) (c .before .cells .result) (c .before .before .in-run .result .0) (c .in-run2 .result .0)
+lent : (c : tie.After-in-run2 Inv-loop μ-loop) → Part (c .before .before .before .before .before .before .before .before .before .before .before .args .run) (c .before .before .before .block-from .result) (c .before .before .before .before .before .before .loop .first) (c .before .cells .result) (c .before .before .in-run .result .0) (c .in-run2 .result .0)
 lent c =
     let b = c .before .before .before .block-from .ensures in
     record {
@@ -105,25 +105,25 @@ lent c =
     }
 
 loop-holds : tie.Need-loop-holds Inv-loop μ-loop
-loop-holds c = begins _ _ _ (c .before .before .before .pre .0 .valid) (λ i. omega (arith, c .slice-known .given i))
+loop-holds c = begins _ _ _ (c .before .before .before .before .pre .0 .valid) (λ i. omega (arith, c .slice-known .given i))
 
 block-from-requires : tie.Need-block-from-requires Inv-loop μ-loop
-block-from-requires c κs = (c .before .before .before .before .before .before .pre .0 .valid, c .before .before .loop .inv .from, c .if1 .taken, c .before .before .before .before .before .before .pre .1)
+block-from-requires c κs = (c .before .before .before .before .before .before .before .pre .0 .valid, c .before .before .loop .inv .from, c .if1 .taken, c .before .before .before .before .before .before .before .pre .1)
 
 in-run-requires : tie.Need-in-run-requires Inv-loop μ-loop
 in-run-requires c κs =
     let b = c .block-from .ensures in
-    let v = valid-block (c .before .before .before .before .before .before .before .pre .0 .valid) (b .0) (omega arith) in
-    (c .before .before .before .before .before .before .before .pre .0 .valid, b .0, v, omega arith)
+    let v = valid-block (c .before .before .before .before .before .before .before .before .pre .0 .valid) (b .0) (omega arith) in
+    (c .before .before .before .before .before .before .before .before .pre .0 .valid, b .0, v, omega arith)
 
 cells-requires : tie.Need-cells-requires Inv-loop μ-loop
-cells-requires c κs = let b = c .before .block-from .ensures in valid-block (c .before .before .before .before .before .before .before .before .pre .0 .valid) (b .0) (omega arith)
+cells-requires c κs = let b = c .before .block-from .ensures in valid-block (c .before .before .before .before .before .before .before .before .before .pre .0 .valid) (b .0) (omega arith)
 
 in-run-requires-2 : tie.Need-in-run-requires-2 Inv-loop μ-loop
 in-run-requires-2 c κs =
     let b = c .before .before .block-from .ensures in
-    let v = valid-block (c .before .before .before .before .before .before .before .before .before .pre .0 .valid) (b .0) (omega arith) in
-    (c .before .before .before .before .before .before .before .before .before .pre .0 .valid, b .0, v, omega (arith, c .cells .ensures))
+    let v = valid-block (c .before .before .before .before .before .before .before .before .before .before .pre .0 .valid) (b .0) (omega arith) in
+    (c .before .before .before .before .before .before .before .before .before .before .pre .0 .valid, b .0, v, omega (arith, c .cells .ensures))
 
 sub-add-chosen : tie.Need-sub-add-chosen Inv-loop μ-loop
 sub-add-chosen c = let p = lent c in omega arith
@@ -132,30 +132,30 @@ part-add-chosen-start : tie.Need-part-add-chosen-start Inv-loop μ-loop
 part-add-chosen-start c = let p = lent c in omega arith
 
 part-add-chosen-end : tie.Need-part-add-chosen-end Inv-loop μ-loop
-part-add-chosen-end c = part-ends (c .before .before .before .before .before .before .loop .inv) (c .before .before .before .before .before .before .before .before .before .before .pre .0 .valid) (c .before .before .before .before .before .before .before .before .before .before .pre .0 .whole) (lent c)
+part-add-chosen-end c = part-ends (c .before .before .before .before .before .before .loop .inv) (c .before .before .before .before .before .before .before .before .before .before .before .pre .0 .valid) (c .before .before .before .before .before .before .before .before .before .before .before .pre .0 .whole) (lent c)
 
 add-chosen-requires : tie.Need-add-chosen-requires Inv-loop μ-loop
 add-chosen-requires c κs =
-    let p = c .before .before .before .before .before .before .before .before .before .before .before .pre in
+    let p = c .before .before .before .before .before .before .before .before .before .before .before .before .pre in
     let b = c .before .before .before .before .block-from .ensures in
     record { valid = valid-block (p .0 .valid) (b .0) (omega arith); equal = p .0 .equal; sound = p .0 .sound; whole = part-cells (c .before .before .before .before .before .before .before .loop .inv) (p .0 .valid) (p .0 .whole) (lent (c .before)) }
 
 add-first : tie.Need-add-first Inv-loop μ-loop
-add-first c = let b = c .before .before .before .before .before .before .before .before .block-from .ensures in let v = c .before .before .before .before .before .before .before .before .before .before .before .before .before .before .before .pre .0 .valid in omega arith
+add-first c = let b = c .before .before .before .before .before .before .before .before .block-from .ensures in let v = c .before .before .before .before .before .before .before .before .before .before .before .before .before .before .before .before .pre .0 .valid in omega arith
 
 loop-less : tie.Need-loop-less Inv-loop μ-loop
-loop-less c = let b = c .before .before .before .before .before .before .before .before .block-from .ensures in let v = c .before .before .before .before .before .before .before .before .before .before .before .before .before .before .before .pre .0 .valid in let h = c .before .before .before .before .before .before .before .before .before .if1 .taken in omega arith
+loop-less c = let b = c .before .before .before .before .before .before .before .before .block-from .ensures in let v = c .before .before .before .before .before .before .before .before .before .before .before .before .before .before .before .before .pre .0 .valid in let h = c .before .before .before .before .before .before .before .before .before .if1 .taken in omega arith
 
 loop-again : tie.Need-loop-again Inv-loop μ-loop
 loop-again c =
-    let p = c .before .before .before .before .before .before .before .before .before .before .before .before .before .before .before .pre in
+    let p = c .before .before .before .before .before .before .before .before .before .before .before .before .before .before .before .before .pre in
     next (c .before .before .before .before .before .before .before .before .before .before .before .loop .inv) (p .0 .valid) (p .0 .whole) (lent (c .before .before .before .before .before)) (c .before .before .before .add-chosen .ensures)
 
 same-length : tie.Need-same-length Inv-loop μ-loop
 same-length c = c .before .before .loop .inv .done .as-long
 
 returns : tie.Need-returns Inv-loop μ-loop
-returns c = all (c .before .before .loop .inv) (c .before .before .before .before .before .before .pre .0 .valid) (c .before .before .before .before .before .before .pre .0 .whole) (c .if1 .left)
+returns c = all (c .before .before .loop .inv) (c .before .before .before .before .before .before .before .pre .0 .valid) (c .before .before .before .before .before .before .before .pre .0 .whole) (c .if1 .left)
 
 pub add-blocks-spec : {M : Type 1} → statement M
 add-blocks-spec =

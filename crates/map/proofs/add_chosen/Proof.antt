@@ -11,30 +11,32 @@ use lib.ListN.{length, getD, drop, drop-of-length-le}
 use Rattle.scope.specs.declared.Run.{Run}
 use Rattle.scope.specs.Run.{ceiling, UpTo}
 use Rattle.sources.specs.Entry.{entriesOf}
+use Rattle.sources.specs.Lists.{OneLength}
+use Rattle.sources.specs.Table.{entryAfter}
 use Rattle.map.specs.Promise.{added}
 use Rattle.map.specs.Inner.{chosen}
-use Rattle.map.proofs.Entries.{entry, entries-from, ValidEntry, ValidEntries, valid-entries, added-append, added-none, added-length, added-within, chosen-cons, chosen-low, chosen-high}
+use Rattle.map.proofs.Entries.{entries-from, ValidEntry, ValidEntries, valid-entries, added-append, added-none, added-length, added-within, chosen-cons, chosen-low, chosen-high}
 use Rattle.map.proofs.add_chosen.Statement.{statement}
 use Rattle.map.proofs.add_chosen.Tie as tie
 
-record Left (run : Run) (periods weights : List ℕ) (low high : ℕ) (map₀ map : List ℕ) (k : ℕ) : Type 0 where
-  equal : length periods ≡ length weights
+record Left (run : Run) (periods weights phases : List ℕ) (low high : ℕ) (map₀ map : List ℕ) (k : ℕ) : Type 0 where
+  equal : OneLength periods weights phases
   within : k ≤ length periods
-  valid : ValidEntries ceiling (entriesOf (drop k periods) (drop k weights))
+  valid : ValidEntries ceiling (entriesOf (drop k periods) (drop k weights) (drop k phases))
   as-long : length map ≡ length map₀
   small : UpTo ceiling map
-  same : added ceiling run (chosen low high (entriesOf (drop k periods) (drop k weights))) map ≡ added ceiling run (chosen low high (entriesOf periods weights)) map₀
+  same : added ceiling run (chosen low high (entriesOf (drop k periods) (drop k weights) (drop k phases))) map ≡ added ceiling run (chosen low high (entriesOf periods weights phases)) map₀
 
-module _ {run : Run} {periods weights : List ℕ} {low high : ℕ} {map₀ map : List ℕ} {k : ℕ} (left : Left run periods weights low high map₀ map k) where
+module _ {run : Run} {periods weights phases : List ℕ} {low high : ℕ} {map₀ map : List ℕ} {k : ℕ} (left : Left run periods weights phases low high map₀ map k) where
   -- the entries left, by the one at k
-  these : k < length periods → entriesOf (drop k periods) (drop k weights) ≡ entry (getD periods k 0) (getD weights k 0) ∷ entriesOf (drop (suc k) periods) (drop (suc k) weights)
-  these h = let l = left .equal in entries-from periods weights k h (omega arith)
+  these : k < length periods → entriesOf (drop k periods) (drop k weights) (drop k phases) ≡ entryAfter periods weights phases k ∷ entriesOf (drop (suc k) periods) (drop (suc k) weights) (drop (suc k) phases)
+  these h = let l = left .equal in entries-from periods weights phases k h (omega (arith, l .0)) (omega (arith, l .1))
 
-  valid-here : k < length periods → ValidEntry ceiling (entry (getD periods k 0) (getD weights k 0))
+  valid-here : k < length periods → ValidEntry ceiling (entryAfter periods weights phases k)
   valid-here h = (rw (these h) at (left .valid)) .0
 
   -- an entry is passed over
-  pass : k < length periods → chosen low high (entry (getD periods k 0) (getD weights k 0) ∷ entriesOf (drop (suc k) periods) (drop (suc k) weights)) ≡ chosen low high (entriesOf (drop (suc k) periods) (drop (suc k) weights)) → Left run periods weights low high map₀ map (k + 1)
+  pass : k < length periods → chosen low high (entryAfter periods weights phases k ∷ entriesOf (drop (suc k) periods) (drop (suc k) weights) (drop (suc k) phases)) ≡ chosen low high (entriesOf (drop (suc k) periods) (drop (suc k) weights) (drop (suc k) phases)) → Left run periods weights phases low high map₀ map (k + 1)
   pass h e =
       record {
         equal = left .equal;
@@ -46,11 +48,11 @@ module _ {run : Run} {periods weights : List ℕ} {low high : ℕ} {map₀ map :
       }
 
   -- the entry is added
-  add : {map′ : List ℕ} → k < length periods → low ≤ getD periods k 0 → getD periods k 0 < high → map′ ≡ added ceiling run (entry (getD periods k 0) (getD weights k 0) ∷ []) map → Left run periods weights low high map₀ map′ (k + 1)
+  add : {map′ : List ℕ} → k < length periods → low ≤ getD periods k 0 → getD periods k 0 < high → map′ ≡ added ceiling run (entryAfter periods weights phases k ∷ []) map → Left run periods weights phases low high map₀ map′ (k + 1)
   add {map′} h lower upper e =
-      let one = entry (getD periods k 0) (getD weights k 0) in
-      let rest = entriesOf (drop (suc k) periods) (drop (suc k) weights) in
-      let more : added ceiling run (chosen low high rest) map′ ≡ added ceiling run (chosen low high (entriesOf (drop k periods) (drop k weights))) map =
+      let one = entryAfter periods weights phases k in
+      let rest = entriesOf (drop (suc k) periods) (drop (suc k) weights) (drop (suc k) phases) in
+      let more : added ceiling run (chosen low high rest) map′ ≡ added ceiling run (chosen low high (entriesOf (drop k periods) (drop k weights) (drop k phases))) map =
       rw e (added-append ceiling run (one ∷ []) (chosen low high rest) map ∙ ap (λ l. added ceiling run l map) (sym (chosen-cons low high one rest lower upper) ∙ ap (chosen low high) (sym (these h)))) in
       record {
         equal = left .equal;
@@ -62,19 +64,19 @@ module _ {run : Run} {periods weights : List ℕ} {low high : ℕ} {map₀ map :
       }
 
   -- no entry is left
-  all : length periods ≤ k → map ≡ added ceiling run (chosen low high (entriesOf periods weights)) map₀
+  all : length periods ≤ k → map ≡ added ceiling run (chosen low high (entriesOf periods weights phases)) map₀
   unfolding entriesOf chosen
   all h = sym (added-none ceiling run map (left .small)) ∙ rw (drop-of-length-le periods h) at (left .same)
 
 abbrev Inv-loop : tie.InvT-loop
-Inv-loop run periods weights low high map₀ k₀ map k = Left run periods weights low high map₀ map k
+Inv-loop run periods weights phases low high map₀ k₀ map k = Left run periods weights phases low high map₀ map k
 
 abbrev μ-loop : tie.MeasureT-loop
-μ-loop run periods weights low high map₀ k₀ map k = length periods - k
+μ-loop run periods weights phases low high map₀ k₀ map k = length periods - k
 
 loop-holds : tie.Need-loop-holds Inv-loop μ-loop
 loop-holds c =
-    let p = c .before .before .before .pre in
+    let p = c .before .before .before .before .pre in
     record {
       equal = p .equal;
       within = omega arith;
@@ -90,6 +92,12 @@ mul-period c = search needs
 shared-slice-read-period : tie.Need-shared-slice-read-period Inv-loop μ-loop
 shared-slice-read-period c = search needs
 
+mul-phase : tie.Need-mul-phase Inv-loop μ-loop
+mul-phase c = search needs
+
+shared-slice-read-phase : tie.Need-shared-slice-read-phase Inv-loop μ-loop
+shared-slice-read-phase c = search needs
+
 mul-add-source : tie.Need-mul-add-source Inv-loop μ-loop
 mul-add-source c = search needs
 
@@ -98,15 +106,15 @@ shared-slice-read-add-source c = search needs
 
 cast-add-source : tie.Need-cast-add-source Inv-loop μ-loop
 cast-add-source c =
-    let here = c .before .before .before .before in
+    let here = c .before .before .before .before .before in
     let v = valid-here (here .before .loop .inv) (here .loop-test .taken) in
     omega arith
 
 add-source-requires : tie.Need-add-source-requires Inv-loop μ-loop
 add-source-requires c κs =
-    let here = c .before .before .before .before .before in
+    let here = c .before .before .before .before .before .before in
     let left = here .before .loop .inv in
-    let p = here .before .before .before .before .before .pre in
+    let p = here .before .before .before .before .before .before .pre in
     (p .valid, valid-here left (here .loop-test .taken) .source, left .as-long ∙ p .whole)
 
 add-k : tie.Need-add-k Inv-loop μ-loop
@@ -121,7 +129,7 @@ loop-again c =
     let left = here .before .loop .inv in
     let inside = here .loop-test .taken in
     ⊎-elim
-    (λ w. add left inside (w .0 .taken) (w .1 .taken) (w .7 ∙ w .4 .ensures))
+    (λ w. add left inside (w .0 .taken) (w .1 .taken) (w .8 ∙ w .5 .ensures))
     (⊎-elim
     (λ w. rw (w .2) (pass left inside (chosen-high _ _ _ _ (w .1 .left))))
     (λ w. rw (w .1) (pass left inside (chosen-low _ _ _ _ (w .0 .left)))))
@@ -142,6 +150,8 @@ add-chosen-spec =
     loop-holds
     mul-period
     shared-slice-read-period
+    mul-phase
+    shared-slice-read-phase
     mul-add-source
     shared-slice-read-add-source
     cast-add-source

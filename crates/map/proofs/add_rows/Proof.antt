@@ -91,9 +91,10 @@ returns : tie.Need-returns Inv-loop μ-loop
 unfolding added
 returns c =
     let rows = c .before .loop .inv in
-    let begin = c .before .before .before .before .before .before .before .before .args in
+    let begin = c .before .before .before .before .before .before .before .before in
+    let a = begin .args in
     let l = rows .done .as-long in
-    ends (rows .done) (omega arith) ∙ raised-move ceiling _ _ 0 0 _ (λ i h. row-gain (begin .run) (begin .source) (begin .weight) _ (0 + i) (c .before .before .distance .ensures))
+    ends (rows .done) (omega arith) ∙ raised-move ceiling _ _ 0 0 _ (λ i h. row-gain (a .run) (a .source) (begin .pre .1) (a .weight) _ (0 + i) (c .before .before .distance .ensures))
 
 pub add-rows-spec : {M : Type 1} → statement M
 add-rows-spec =

@@ -19,9 +19,9 @@ slice-aggregate-write-report c = search needs
 
 write-report-requires : tie.Need-write-report-requires
 write-report-requires c κs =
-    let start = c .before .before .before .before in
+    let start = c .before .before .before .before .before in
     let a = start .pre .0 in
-    let few = entries-length (start .args .periods .now) (start .args .weights .now) (a .equal) in
+    let few = entries-length (start .args .periods .now) (start .args .weights .now) (start .args .phases .now) (a .equal) in
     (a, omega (arith, whole-long a (omega (arith, start .pre .1)), ap length (c .before .blank .ensures), length-zeros roomBytes))
 
 returns : tie.Need-returns

@@ -11,17 +11,17 @@ use Rattle.report.proofs.write_map_of.Tie as tie
 
 -- what the cells hold then
 cells-are : (c : tie.After-add-to-map)
-    → let a = c .before .before .before .before .before .before .args in
-    c .add-to-map .last .1 .1 .1 .0 ≡ reportedMap (a .run) (entriesOf (a .periods .now) (a .weights .now))
+    → let a = c .before .before .before .before .before .before .before .args in
+    c .add-to-map .last .1 .1 .1 .1 .0 ≡ reportedMap (a .run) (entriesOf (a .periods .now) (a .weights .now) (a .phases .now))
 cells-are c =
-    let start = c .before .before .before .before .before .before in
+    let start = c .before .before .before .before .before .before .before in
     map-is (start .pre .0) (start .pre .1 .0) (c .add-to-map .ensures)
 
 -- the lines that are written
 lines-are : (c : tie.After-add-to-map)
-    → let a = c .before .before .before .before .before .before .args in
-    let map = c .add-to-map .last .1 .1 .1 .0 in
-    mapReport 0 map ++ endReport map ≡ cellsReport (a .run) (entriesOf (a .periods .now) (a .weights .now))
+    → let a = c .before .before .before .before .before .before .before .args in
+    let map = c .add-to-map .last .1 .1 .1 .1 .0 in
+    mapReport 0 map ++ endReport map ≡ cellsReport (a .run) (entriesOf (a .periods .now) (a .weights .now) (a .phases .now))
 unfolding cellsReport
 lines-are c = ap (λ m. mapReport 0 m ++ endReport m) (cells-are c)
 
@@ -31,7 +31,7 @@ add-to-map-requires c κs = search needs
 write-cells-requires : tie.Need-write-cells-requires
 write-cells-requires c κs =
     let added = c .before .before .before .before in
-    let start = added .before .before .before .before .before .before in
+    let start = added .before .before .before .before .before .before .before in
     fits-same (start .args .at) _ _ (lines-are added) (start .pre .1 .1)
 
 same-length : tie.Need-same-length

@@ -15,37 +15,37 @@ use Rattle.report.proofs.write_report.Statement.{statement}
 use Rattle.report.proofs.write_report.Tie as tie
 
 -- what is left to be written before the run's line, and after it, and after those of the sources
-starts : (c : tie.After-shared-slice-known2)
-    → let a = c .before .before .before .args in
-    let es = entriesOf (a .periods .now) (a .weights .now) in
+starts : (c : tie.After-shared-slice-known3)
+    → let a = c .before .before .before .before .args in
+    let es = entriesOf (a .periods .now) (a .weights .now) (a .phases .now) in
     Writing (a .room .now) 0 (wholeReport (a .run) es) (wholeReport (a .run) es) 0 (a .room .now)
-starts c = writing-starts _ _ _ (c .before .before .before .pre .1)
+starts c = writing-starts _ _ _ (c .before .before .before .before .pre .1)
 
 run-written : (c : tie.After-write-run)
-    → let a = c .before .before .before .before .before .args in
-    let es = entriesOf (a .periods .now) (a .weights .now) in
+    → let a = c .before .before .before .before .before .before .args in
+    let es = entriesOf (a .periods .now) (a .weights .now) (a .phases .now) in
     Writing (a .room .now) 0 (wholeReport (a .run) es) (srcReport (a .run) 1 es ++ (cellsReport (a .run) es)) (c .write-run .result) (c .write-run .last .0)
 unfolding wholeReport
 run-written c = writing-more (starts (c .before .before)) refl (c .write-run .ensures)
 
 sources-written : (c : tie.After-write-sources)
-    → let a = c .before .before .before .before .before .before .before .before .before .args in
-    let es = entriesOf (a .periods .now) (a .weights .now) in
+    → let a = c .before .before .before .before .before .before .before .before .before .before .args in
+    let es = entriesOf (a .periods .now) (a .weights .now) (a .phases .now) in
     Writing (a .room .now) 0 (wholeReport (a .run) es) (cellsReport (a .run) es) (c .write-sources .result) (c .write-sources .last .0)
 sources-written c = writing-more (run-written (c .before .before .before .before)) refl (c .write-sources .ensures)
 
 write-run-requires : tie.Need-write-run-requires
 unfolding wholeReport
 write-run-requires c κs =
-    let a = c .before .before .before .before .args in
-    let es = entriesOf (a .periods .now) (a .weights .now) in (
-      c .before .before .before .before .pre .0 .valid,
+    let a = c .before .before .before .before .before .args in
+    let es = entriesOf (a .periods .now) (a .weights .now) (a .phases .now) in (
+      c .before .before .before .before .before .pre .0 .valid,
       piece-fits (starts (c .before)) (runReport (a .run)) (srcReport (a .run) 1 es ++ cellsReport (a .run) es) refl,
     )
 
 write-sources-requires : tie.Need-write-sources-requires
 write-sources-requires c κs =
-    let start = c .before .before .before .before .before .before .before .before in
+    let start = c .before .before .before .before .before .before .before .before .before in
     (start .pre .0, piece-fits (run-written (c .before .before .before)) (srcReport _ _ _) _ refl)
 
 cleared-requires : tie.Need-cleared-requires
@@ -67,7 +67,7 @@ write-map-of-requires : tie.Need-write-map-of-requires
 write-map-of-requires c κs =
     let cells = c .before .before in
     let written = cells .before .before .before .before in
-    let start = written .before .before .before .before .before .before .before .before .before in
+    let start = written .before .before .before .before .before .before .before .before .before .before in
     let few : cells .cells .result ≤ mostCells = omega (arith, cells .cells .ensures, start .pre .0 .few) in
     let part =
     ap (take (cells .cells .result - 0)) (cells .before .cleared .ensures) ∙ cleared-part (cells .cells .result) few

@@ -9,22 +9,28 @@ use Rattle.report.proofs.write_sources.Statement.{statement}
 use Rattle.report.proofs.write_sources.Tie as tie
 
 abbrev Inv-loop : tie.InvT-loop
-Inv-loop room₀ at run periods weights next₀ k₀ room next k = SrcLines room₀ at run periods weights k next room
+Inv-loop room₀ at run periods weights phases next₀ k₀ room next k = SrcLines room₀ at run periods weights phases k next room
 
 abbrev μ-loop : tie.MeasureT-loop
-μ-loop room₀ at run periods weights next₀ k₀ room next k = length periods - k
+μ-loop room₀ at run periods weights phases next₀ k₀ room next k = length periods - k
 
 loop-holds : tie.Need-loop-holds Inv-loop μ-loop
-loop-holds c = src-starts (c .before .before .before .pre .0) (c .before .before .before .pre .1)
+loop-holds c = src-starts (c .before .before .before .before .pre .0) (c .before .before .before .before .pre .1)
+
+mul-period : tie.Need-mul-period Inv-loop μ-loop
+mul-period c = search needs
+
+shared-slice-read-period : tie.Need-shared-slice-read-period Inv-loop μ-loop
+shared-slice-read-period c = search needs
+
+mul-phase : tie.Need-mul-phase Inv-loop μ-loop
+mul-phase c = search needs
+
+shared-slice-read-phase : tie.Need-shared-slice-read-phase Inv-loop μ-loop
+shared-slice-read-phase c = search needs
 
 add-write-source : tie.Need-add-write-source Inv-loop μ-loop
 add-write-source c = search needs
-
-mul-t12 : tie.Need-mul-t12 Inv-loop μ-loop
-mul-t12 c = search needs
-
-shared-slice-read-t14 : tie.Need-shared-slice-read-t14 Inv-loop μ-loop
-shared-slice-read-t14 c = search needs
 
 mul-write-source : tie.Need-mul-write-source Inv-loop μ-loop
 mul-write-source c = search needs
@@ -34,9 +40,9 @@ shared-slice-read-write-source c = search needs
 
 write-source-requires : tie.Need-write-source-requires Inv-loop μ-loop
 write-source-requires c κs =
-    let l = c .before .before .before in
+    let l = c .before .before .before .before in
     let w = l .before .loop .inv in
-    let a = l .before .before .before .before .before .pre .0 in
+    let a = l .before .before .before .before .before .before .pre .0 in
     ((a .valid, src-valid w (l .loop-test .taken), a .few), src-fits w (l .loop-test .taken))
 
 add-k : tie.Need-add-k Inv-loop μ-loop
@@ -47,7 +53,7 @@ loop-less c = search needs
 
 loop-again : tie.Need-loop-again Inv-loop μ-loop
 loop-again c =
-    let l = c .before .before .before .before .before .before in
+    let l = c .before .before .before .before .before .before .before in
     src-written (l .before .loop .inv) (l .loop-test .taken) (c .before .before .write-source .ensures)
 
 same-length : tie.Need-same-length Inv-loop μ-loop
@@ -63,9 +69,11 @@ write-sources-spec =
     Inv-loop
     μ-loop
     loop-holds
+    mul-period
+    shared-slice-read-period
+    mul-phase
+    shared-slice-read-phase
     add-write-source
-    mul-t12
-    shared-slice-read-t14
     mul-write-source
     shared-slice-read-write-source
     write-source-requires

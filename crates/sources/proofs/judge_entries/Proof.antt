@@ -13,32 +13,34 @@ use Rattle.scope.specs.declared.Verdict.{Verdict}
 use Rattle.scope.specs.declared.Verdict.the-variants.{Fine}
 use Rattle.scope.specs.Run.{ceiling}
 use Rattle.sources.specs.Entry.{entriesOf, entryTests, listTests}
-use Rattle.sources.proofs.Entries.{entry, entries-from}
+use Rattle.sources.specs.Lists.{OneLength}
+use Rattle.sources.specs.Table.{entryAfter}
+use Rattle.sources.proofs.Entries.{entries-from}
 use Rattle.scope.proofs.Verdicts.{verdict-then, first-of-three, first-alone}
 use Rattle.sources.proofs.judge_entries.Statement.{statement}
 use Rattle.sources.proofs.judge_entries.Tie as tie
 
 -- the verdict on the sources from k on, counted from 0
-abbrev rest : List ℕ → List ℕ → ℕ → Verdict
-rest periods weights k = verdict (complaint (listTests ceiling (suc k) (entriesOf (drop k periods) (drop k weights))))
+abbrev rest : (periods weights phases : List ℕ) → ℕ → Verdict
+rest periods weights phases k = verdict (complaint (listTests ceiling (suc k) (entriesOf (drop k periods) (drop k weights) (drop k phases))))
 
-record From (periods weights : List ℕ) (said : Verdict) (k : ℕ) : Type 0 where
-  equal : length periods ≡ length weights
+record From (periods weights phases : List ℕ) (said : Verdict) (k : ℕ) : Type 0 where
+  equal : OneLength periods weights phases
   within : k ≤ length periods
-  whole : rest periods weights 0 ≡ firstOf said (rest periods weights k)
+  whole : rest periods weights phases 0 ≡ firstOf said (rest periods weights phases k)
 
-starts : {periods weights : List ℕ} → length periods ≡ length weights → From periods weights Fine 0
+starts : {periods weights phases : List ℕ} → OneLength periods weights phases → From periods weights phases Fine 0
 unfolding firstOf
 starts e = record { equal = e; within = omega arith; whole = refl }
 
-module _ {periods weights : List ℕ} {said : Verdict} {k : ℕ} (from : From periods weights said k) where
-  rest-is : k < length periods → rest periods weights k ≡ firstOf (verdict (complaint (ofSource (suc k) (entryTests ceiling (entry (getD periods k 0) (getD weights k 0)))))) (rest periods weights (suc k))
+module _ {periods weights phases : List ℕ} {said : Verdict} {k : ℕ} (from : From periods weights phases said k) where
+  rest-is : k < length periods → rest periods weights phases k ≡ firstOf (verdict (complaint (ofSource (suc k) (entryTests ceiling (entryAfter periods weights phases k))))) (rest periods weights phases (suc k))
   unfolding listTests
   rest-is h =
       let l = from .equal in
-      rw (entries-from periods weights k h (omega arith), verdict-then)
+      rw (entries-from periods weights phases k h (omega (arith, l .0)) (omega (arith, l .1)), verdict-then)
 
-  steps : {next said′ : Verdict} → k < length periods → next ≡ verdict (complaint (ofSource (k + 1) (entryTests ceiling (entry (getD periods k 0) (getD weights k 0))))) → said′ ≡ firstOf said next → From periods weights said′ (k + 1)
+  steps : {next said′ : Verdict} → k < length periods → next ≡ verdict (complaint (ofSource (k + 1) (entryTests ceiling (entryAfter periods weights phases k)))) → said′ ≡ firstOf said next → From periods weights phases said′ (k + 1)
   steps h e f =
       record {
         equal = from .equal;
@@ -46,33 +48,39 @@ module _ {periods weights : List ℕ} {said : Verdict} {k : ℕ} (from : From pe
         whole = rw (add-one, f, rw (add-one k) at e) (from .whole ∙ rw (rest-is h) (first-of-three said _ _));
       }
 
-  ends : length periods ≤ k → said ≡ rest periods weights 0
+  ends : length periods ≤ k → said ≡ rest periods weights phases 0
   unfolding entriesOf listTests complaint
   ends h = sym (from .whole ∙ rw (drop-of-length-le periods h) (first-alone said))
 
 abbrev Inv-loop : tie.InvT-loop
-Inv-loop periods weights said₀ k₀ said k = From periods weights said k
+Inv-loop periods weights phases said₀ k₀ said k = From periods weights phases said k
 
 abbrev μ-loop : tie.MeasureT-loop
-μ-loop periods weights said₀ k₀ said k = length periods - k
+μ-loop periods weights phases said₀ k₀ said k = length periods - k
 
 loop-holds : tie.Need-loop-holds Inv-loop μ-loop
-loop-holds c = starts (c .before .before .pre)
+loop-holds c = starts (c .before .before .before .pre)
 
 add-place : tie.Need-add-place Inv-loop μ-loop
 add-place c = search needs
+
+mul-period : tie.Need-mul-period Inv-loop μ-loop
+mul-period c = search needs
+
+shared-slice-read-period : tie.Need-shared-slice-read-period Inv-loop μ-loop
+shared-slice-read-period c = search needs
+
+mul-phase : tie.Need-mul-phase Inv-loop μ-loop
+mul-phase c = search needs
+
+shared-slice-read-phase : tie.Need-shared-slice-read-phase Inv-loop μ-loop
+shared-slice-read-phase c = search needs
 
 mul-judge-entry : tie.Need-mul-judge-entry Inv-loop μ-loop
 mul-judge-entry c = search needs
 
 shared-slice-read-judge-entry : tie.Need-shared-slice-read-judge-entry Inv-loop μ-loop
 shared-slice-read-judge-entry c = search needs
-
-mul-judge-entry-2 : tie.Need-mul-judge-entry-2 Inv-loop μ-loop
-mul-judge-entry-2 c = search needs
-
-shared-slice-read-judge-entry-2 : tie.Need-shared-slice-read-judge-entry-2 Inv-loop μ-loop
-shared-slice-read-judge-entry-2 c = search needs
 
 judge-entry-requires : tie.Need-judge-entry-requires Inv-loop μ-loop
 judge-entry-requires c κs = search needs
@@ -88,8 +96,8 @@ loop-less c = search needs
 
 loop-again : tie.Need-loop-again Inv-loop μ-loop
 loop-again c =
-    let seen = c .before .before .before .before .loop-test .taken in
-    steps (c .before .before .before .before .before .loop .inv) (omega arith) (c .before .judge-entry .ensures) (c .first-of .ensures)
+    let turn = c .before .before .before .before .before in
+    steps (turn .before .loop .inv) (turn .loop-test .taken) (c .before .judge-entry .ensures) (c .first-of .ensures)
 
 returns : tie.Need-returns Inv-loop μ-loop
 returns c = ends (c .before .loop .inv) (c .loop-test .left)
@@ -102,10 +110,12 @@ judge-entries-spec =
     μ-loop
     loop-holds
     add-place
+    mul-period
+    shared-slice-read-period
+    mul-phase
+    shared-slice-read-phase
     mul-judge-entry
     shared-slice-read-judge-entry
-    mul-judge-entry-2
-    shared-slice-read-judge-entry-2
     judge-entry-requires
     first-of-requires
     add-k

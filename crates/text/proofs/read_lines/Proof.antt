@@ -30,28 +30,31 @@ same-length c = c .before .before .before .before .read-line .kept .1 .1 .1 .0
 returns-2 : tie.Need-returns-2
 returns-2 c =
     let read = c .before .before .before .before in
-    hand-on (c .enum-told .given .1) (LineAt _ _ _ _ _ _) (LinesAt _ _ _ _ _ _ _ _) (read .read-line .ensures)
-    (λ r. (r .0, no-run (read .before .before .before .before .before .before .before .before .pre) (r .1), refl))
+    hand-on (c .enum-told .given .1) (LineAt _ _ _ _ _ _) (LinesAt _ _ _ _ _ _ _ _ _ _) (read .read-line .ensures)
+    (λ r. (r .0, no-run (read .before .before .before .before .before .before .before .before .before .pre) (r .1), refl))
 
 read-sources-requires : tie.Need-read-sources-requires
 read-sources-requires c κs = search needs
 
 same-length-2 : tie.Need-same-length-2
-same-length-2 c = c .before .before .before .before .before .before .before .before .before .before .before .before .before .read-line .kept .1 .1 .1 .0
+same-length-2 c = c .before .before .before .before .before .before .before .before .before .before .before .before .before .before .before .before .read-line .kept .1 .1 .1 .0
 
 same-length-3 : tie.Need-same-length-3
-same-length-3 c = c .before .before .before .before .read-sources .kept .1 .1 .0
+same-length-3 c = c .before .before .before .before .before .before .read-sources .kept .1 .1 .0
 
 same-length-4 : tie.Need-same-length-4
-same-length-4 c = c .before .before .before .before .read-sources .kept .1 .1 .1 .0
+same-length-4 c = c .before .before .before .before .before .before .read-sources .kept .1 .1 .1 .0
+
+same-length-5 : tie.Need-same-length-5
+same-length-5 c = c .before .before .before .before .before .before .read-sources .kept .1 .1 .1 .1 .0
 
 returns-3 : tie.Need-returns-3
 returns-3 c =
-    let sources = c .before .before .before .before .read-sources in
-    let told = c .before .before .before .before .before .before .before .before in
-    let read = told .before .before .before .before .before in
-    all-lines (subst (LineAt _ _ _ _ _ _) (told .before .run .given .1) (read .read-line .ensures)) (read .read-line .kept .1 .1 .1 .0 ∙ read .before .before .before .before .before .before .before .before .pre)
-    (omega (arith, read .before .before .before .if1 .left)) _ _ _ _ _ _ (sources .result) (sources .ensures)
+    let sources = c .before .before .before .before .before .before .read-sources in
+    let run = c .before .before .before .before .before .before .before .before .before .before .before .before in
+    let read = run .before .before .before .before in
+    all-lines (subst (LineAt _ _ _ _ _ _) (run .run .given .1) (read .read-line .ensures)) (read .read-line .kept .1 .1 .1 .0 ∙ read .before .before .before .before .before .before .before .before .before .pre)
+    (omega (arith, read .before .before .before .if1 .left)) _ _ _ _ _ _ _ _ (sources .result) (sources .ensures)
 
 pub read-lines-spec : {M : Type 1} → statement M
 read-lines-spec =
@@ -68,4 +71,5 @@ read-lines-spec =
     same-length-2
     same-length-3
     same-length-4
+    same-length-5
     returns-3)

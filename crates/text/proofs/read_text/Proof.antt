@@ -16,7 +16,7 @@ use Rattle.scope.proofs.Judged.{Passes, Fails, broken, sound, first, then, both
 use Rattle.scope.proofs.Limits.{passes-when, passes-first, passes-then, valid-run}
 use Rattle.sources.specs.Entry.{entriesOf, listTests}
 use Rattle.scope.proofs.Verdicts.{verdict-then}
-use Rattle.text.specs.Form.{runWord, runNumbers, Content, Spells}
+use Rattle.text.specs.Form.{runWord, runNumbers, sourcesMeant, Content, Spells}
 use Rattle.text.specs.Promise.{mostSources, mostCells, textTests}
 use Rattle.words.specs.Inner.{Line}
 use Rattle.text.specs.Inner.{AllLines, LinesAt}
@@ -27,21 +27,21 @@ use Rattle.text.proofs.read_text.Tie as tie
 
 -- the lines that were read
 lines-read : (c : tie.After-enum-told)
-    → let after = c .before .before .before .before .before .read-lines .last .1 in
-    AllLines (c .before .before .before .before .before .before .before .before .before .before .before .args .text .now) (after .0) (zeros mostSources) (zeros mostSources) (after .1 .0) (after .1 .1 .0) (after .1 .1 .1 .0) (c .enum-told .given .0 .0)
+    → let after = c .before .before .before .before .before .before .read-lines .last .1 in
+    AllLines (c .before .before .before .before .before .before .before .before .before .before .before .before .before .args .text .now) (after .0) (zeros mostSources) (zeros mostSources) (zeros mostSources) (after .1 .0) (after .1 .1 .0) (after .1 .1 .1 .0) (after .1 .1 .1 .1 .0) (c .enum-told .given .0 .0)
 unfolding zeros
-lines-read c = subst (LinesAt _ _ _ _ _ _ _ _) (c .enum-told .given .1) (c .before .before .before .before .before .read-lines .ensures)
+lines-read c = subst (LinesAt _ _ _ _ _ _ _ _ _ _) (c .enum-told .given .1) (c .before .before .before .before .before .before .read-lines .ensures)
 
 -- the `run` line
 run-read : (c : tie.After-run-of)
-    → Line (c .before .before .before .before .before .before .before .before .before .before .before .before .args .text .now) 0 runWord (runNumbers (c .run-of .result)) (lines-read (c .before) .at)
-run-read c = line-run (lines-read (c .before) .runs) (c .before .before .before .before .before .before .read-lines .kept .1 .0) (c .run-of .ensures)
+    → Line (c .before .before .before .before .before .before .before .before .before .before .before .before .before .before .args .text .now) 0 runWord (runNumbers (c .run-of .result)) (lines-read (c .before) .at)
+run-read c = line-run (lines-read (c .before) .runs) (c .before .before .before .before .before .before .before .read-lines .kept .1 .0) (c .run-of .ensures)
 
 -- what the text says
 abbrev content : tie.After-run-of → Content
-content c = record { run = c .run-of .result; entries = lines-read (c .before) .lists .entries }
+content c = record { run = c .run-of .result; entries = sourcesMeant (lines-read (c .before) .lists .srcs) }
 
-formed : (c : tie.After-run-of) → Spells (c .before .before .before .before .before .before .before .before .before .before .before .before .args .text .now) (content c)
+formed : (c : tie.After-run-of) → Spells (c .before .before .before .before .before .before .before .before .before .before .before .before .before .before .args .text .now) (content c)
 formed c = has-form (run-read c) (lines-read (c .before) .short) (lines-read (c .before) .lists .lines)
 
 -- the verdict on the run and on the number of sources
@@ -67,26 +67,26 @@ cells-passes c =
     both (few-passes (c .before .before)) (sound (le-ltb mostCells (cellsOf run) (omega (arith, c .before .cells .ensures))))
 
 -- the sources that were counted all have room
-few : (c : tie.After-enum-told2) → c .before .before .before .before .before .before .before .before .before .before .before .read-lines .last .1 .1 .1 .1 .0 ≤ mostSources
+few : (c : tie.After-enum-told2) → c .before .before .before .before .before .before .before .before .before .before .before .before .read-lines .last .1 .1 .1 .1 .1 .0 ≤ mostSources
 few c =
     let l = lines-read (c .before .before .before .before .before .before) .lists in
-    let h = ltb-false mostSources (length (l .entries)) (passes-when (passes-then (few-passes c))) in
+    let h = ltb-false mostSources (length (sourcesMeant (l .srcs))) (passes-when (passes-then (few-passes c))) in
     omega (arith, l .counted)
 
--- the parts of the two lists that are judged
+-- the parts of the three lists that are judged
 parts-long : (c : tie.Else1)
-    → let after = c .before .before .before .before .before .before .before .before .before .before .before .before .before .read-lines .last .1 .1 in
-    let count = after .1 .1 .0 in
-    (length (take count (after .0)) ≡ count) × (length (take count (after .1 .0)) ≡ count)
+    → let after = c .before .before .before .before .before .before .before .before .before .before .before .before .before .before .read-lines .last .1 .1 in
+    let count = after .1 .1 .1 .0 in
+    (length (take count (after .0)) ≡ count) × (length (take count (after .1 .0)) ≡ count) × (length (take count (after .1 .1 .0)) ≡ count)
 parts-long c =
-    let k = c .before .before .before .before .before .before .before .before .before .before .before .before .before .read-lines .kept .1 .1 in
+    let k = c .before .before .before .before .before .before .before .before .before .before .before .before .before .before .read-lines .kept .1 .1 in
     let h = few (c .before .before) in
-    (length-take-le _ _ (omega (arith, k .0)), length-take-le _ _ (omega (arith, k .1 .0)))
+    (length-take-le _ _ (omega (arith, k .0)), length-take-le _ _ (omega (arith, k .1 .0)), length-take-le _ _ (omega (arith, k .1 .1 .0)))
 
 entries-judged : (c : tie.Else1)
-    → let after = c .before .before .before .before .before .before .before .before .before .before .before .before .before .read-lines .last .1 .1 in
-    let count = after .1 .1 .0 in
-    entriesOf (take count (after .0)) (take count (after .1 .0)) ≡ content (c .before .before .before .before .before .before .before) .entries
+    → let after = c .before .before .before .before .before .before .before .before .before .before .before .before .before .before .read-lines .last .1 .1 in
+    let count = after .1 .1 .1 .0 in
+    entriesOf (take count (after .0)) (take count (after .1 .0)) (take count (after .1 .1 .0)) ≡ content (c .before .before .before .before .before .before .before) .entries
 entries-judged c = entries-stored (lines-read (c .before .before .before .before .before .before .before .before) .lists) (few (c .before .before))
 
 slice-aggregate-read-lines : tie.Need-slice-aggregate-read-lines
@@ -97,6 +97,9 @@ slice-aggregate-read-lines-2 c = search needs
 
 slice-aggregate-read-lines-3 : tie.Need-slice-aggregate-read-lines-3
 slice-aggregate-read-lines-3 c = search needs
+
+slice-aggregate-read-lines-4 : tie.Need-slice-aggregate-read-lines-4
+slice-aggregate-read-lines-4 c = search needs
 
 read-lines-requires : tie.Need-read-lines-requires
 read-lines-requires c κs = search needs
@@ -110,7 +113,7 @@ refuse-requires c κs = search needs
 returns : tie.Need-returns
 returns c =
     let told = c .before .before in
-    let r = subst (LinesAt _ _ _ _ _ _ _ _) (told .reason .given .1) (told .before .before .before .before .before .read-lines .ensures) in
+    let r = subst (LinesAt _ _ _ _ _ _ _ _ _ _) (told .reason .given .1) (told .before .before .before .before .before .before .read-lines .ensures) in
     refuses-form (r .1) (r .0) (c .refuse .ensures)
 
 enum-told : tie.Need-enum-told
@@ -157,19 +160,27 @@ returns-3 c =
     (c .refuse3 .ensures)
 
 array-share-prefix-periods : tie.Need-array-share-prefix-periods
-array-share-prefix-periods c = omega (arith, few (c .before .before), c .before .before .before .before .before .before .before .before .before .before .before .before .before .read-lines .kept .1 .1 .0)
+array-share-prefix-periods c = omega (arith, few (c .before .before), c .before .before .before .before .before .before .before .before .before .before .before .before .before .before .read-lines .kept .1 .1 .0)
 
 slice-aggregate-judge-entries : tie.Need-slice-aggregate-judge-entries
 slice-aggregate-judge-entries c = sym (parts-long (c .before) .0)
 
 array-share-prefix-weights : tie.Need-array-share-prefix-weights
-array-share-prefix-weights c = omega (arith, few (c .before .before .before), c .before .before .before .before .before .before .before .before .before .before .before .before .before .before .read-lines .kept .1 .1 .1 .0)
+array-share-prefix-weights c = omega (arith, few (c .before .before .before), c .before .before .before .before .before .before .before .before .before .before .before .before .before .before .before .read-lines .kept .1 .1 .1 .0)
 
 slice-aggregate-judge-entries-2 : tie.Need-slice-aggregate-judge-entries-2
 slice-aggregate-judge-entries-2 c = sym (parts-long (c .before .before) .1)
 
+array-share-prefix-phases : tie.Need-array-share-prefix-phases
+array-share-prefix-phases c = omega (arith, few (c .before .before .before .before), c .before .before .before .before .before .before .before .before .before .before .before .before .before .before .before .before .read-lines .kept .1 .1 .1 .1 .0)
+
+slice-aggregate-judge-entries-3 : tie.Need-slice-aggregate-judge-entries-3
+slice-aggregate-judge-entries-3 c = sym (parts-long (c .before .before .before) .2)
+
 judge-entries-requires : tie.Need-judge-entries-requires
-judge-entries-requires c κs = parts-long (c .before .before) .0 ∙ sym (parts-long (c .before .before) .1)
+judge-entries-requires c κs =
+    let long = parts-long (c .before .before .before) in
+    (long .0 ∙ sym (long .1), long .0 ∙ sym (long .2))
 
 enum-known-reason-3 : tie.Need-enum-known-reason-3
 enum-known-reason-3 c = search needs
@@ -181,7 +192,7 @@ returns-4 : tie.Need-returns-4
 unfolding textTests
 returns-4 c =
     let entries = c .before .before .before .before in
-    let cells = entries .before .before .before in
+    let cells = entries .before .before .before .before in
     refuses (formed (cells .before .before .before .before .before .before .before))
     (then (cells-passes cells)
     (subst (λ es. Fails (listTests ceiling 1 es) (c .before .before .reason3 .given .0 .0) (c .before .before .reason3 .given .0 .1 .0)) (entries-judged cells) (blamed (entries .judge-entries .ensures) (c .before .before .reason3 .given .1))))
@@ -194,7 +205,7 @@ returns-5 : tie.Need-returns-5
 unfolding textTests
 returns-5 c =
     let entries = c .before .before in
-    let cells = entries .before .before .before in
+    let cells = entries .before .before .before .before in
     let run = cells .before .before .before .before .before .before .before in
     accepts (lines-read (run .before) .lists) (few (cells .before .before)) (formed run)
     (both (cells-passes cells)
@@ -207,6 +218,7 @@ read-text-spec =
     slice-aggregate-read-lines
     slice-aggregate-read-lines-2
     slice-aggregate-read-lines-3
+    slice-aggregate-read-lines-4
     read-lines-requires
     enum-known-reason
     refuse-requires
@@ -227,6 +239,8 @@ read-text-spec =
     slice-aggregate-judge-entries
     array-share-prefix-weights
     slice-aggregate-judge-entries-2
+    array-share-prefix-phases
+    slice-aggregate-judge-entries-3
     judge-entries-requires
     enum-known-reason-3
     refuse-requires-4

@@ -11,7 +11,7 @@ use Rattle.scope.specs.declared.Reason.{Reason}
 use Rattle.scope.specs.declared.Place.{Place}
 use Rattle.scope.specs.Reply.{refused, answered}
 use Rattle.scope.proofs.Judged.{Fails, Passes, broken, sound, first, then, both, fine, blamed}
-use Rattle.scope.proofs.Limits.{passes-first, passes-then, valid-window, valid-source}
+use Rattle.scope.proofs.Limits.{passes-first, passes-then, valid-window, valid-period}
 use Rattle.vectors.specs.Vectors.{Values}
 use Rattle.vectors.specs.Promise.{Admits, VectorsPromise, vectorsTests}
 use Rattle.vectors.specs.Inner.{Spans}
@@ -76,12 +76,10 @@ unfolding vectorsTests
 granted c = both (both (pass (c .before .before)) (sound (lt-leb _ _ (c .before .if1 .left)))) (sound (le-ltb _ _ (c .if2 .left)))
 
 find-basis-requires : tie.Need-find-basis-requires
-unfolding sourceTests
 find-basis-requires c κs =
     let p = pass (c .before .before) in
     let window = valid-window (passes-first p) in
-    let period = valid-source {source = record { period = c .before .before .before .before .before .before .before .before .args .period }} (passes-then p) in
-    record { remainder = c .before .if1 .left; some = omega arith; window = c .if2 .left; small = period .fits }
+    record { remainder = c .before .if1 .left; some = omega arith; window = c .if2 .left; small = valid-period (passes-then p) .1 }
 
 enum-known-left : tie.Need-enum-known-left
 enum-known-left c = search needs

@@ -99,5 +99,5 @@ fn answer_with_a_count_has_its_size() {
 fn answers_with_a_place_have_their_sizes() {
     assert_eq!(size_of::<AddedReply>(), 16);
     assert_eq!(size_of::<RunReply>(), 20);
-    assert_eq!(size_of::<TextReply>(), 24 + 8 + 8 + 2 * 64 * 4);
+    assert_eq!(size_of::<TextReply>(), 24 + 8 + 8 + 3 * 64 * 4);
 }

@@ -1,9 +1,10 @@
-//! The bench figures of document 01, examples of request E1's refusals, of request E2's runs, of request E3's stretches and of
-//! request E4's columns, and the words of all refusals.
+//! The bench figures of document 01, examples of request E1's refusals, of request E2's runs, of request E3's stretches, of
+//! request E4's columns and of request E5's phases, and the words of all refusals.
 use crate::library::*;
+use crate::sources::Lists;
 use crate::support::{trials, wide};
 use crate::{files, texts};
-use zenithgong::{FirstHit, Guard, Input, Listing, Refusal, Run, Steps, Vector};
+use zenithgong::{FirstHit, Guard, Input, Listing, Refusal, Run, Source, Steps, Vector};
 
 /// A refusal that concerns no source of a list.
 fn alone<T>(number: u8) -> Result<T, Refusal> {
@@ -14,6 +15,10 @@ fn alone<T>(number: u8) -> Result<T, Refusal> {
 fn of_source<T>(number: u8, place: u64) -> Result<T, Refusal> {
     let place = Some(place);
     Err(Refusal { number, place })
+}
+
+fn source(period: u32, phase: u32) -> Source {
+    Source { period, phase }
 }
 
 fn pair(p: u32, r: u32, window: u32, left: (i64, u64), right: (i64, u64)) {
@@ -66,24 +71,36 @@ fn hits_of_the_document() {
             last,
         };
         let mut room = [0; 7];
-        assert_eq!(list_hits(run(11), 11, 0, &mut room), Ok(Listing::Done(6)));
+        let eleven = source(11, 0);
+        let listing = list_hits(run(11), eleven, 0, &mut room);
+        assert_eq!(listing, Ok(Listing::Done(6)));
         let cell = |&x: &u64| (x as i64 % 6 - 3, x / 6 + 1);
         let cells: Vec<_> = room[..6].iter().map(cell).collect();
         assert_eq!(cells, [(-3, 2), (1, 3), (-2, 5), (2, 6), (-1, 8), (0, 11)]);
-        assert!(first_hit(run(16_777_216), 11, 0).is_ok());
-        assert_eq!(first_hit(run(16_777_217), 11, 0), alone(18));
+        assert!(first_hit(run(16_777_216), eleven, 0).is_ok());
+        assert_eq!(first_hit(run(16_777_217), eleven, 0), alone(18));
     });
 }
 
+/// What a text says, and the map of its sources, both by the library.
+fn mapped(text: &str) -> (Input, Vec<u8>) {
+    let input = read_text(text.as_bytes()).unwrap();
+    let Lists {
+        periods,
+        weights,
+        phases,
+    } = input.sources.iter().copied().collect();
+    let mut map = vec![0; wide(input.run).cells() as usize];
+    add_to_map(input.run, &periods, &weights, &phases, &mut map).unwrap();
+    (input, map)
+}
+
 /// The run of the document's example, its map and its file, all of them by the library.
-fn example() -> (Run, [u8; 20], [u8; 1024]) {
-    let input = read_text(b"run 4 10 1 5\nsrc 7 60\nsrc 3 200\n").unwrap();
-    let (periods, weights): (Vec<u32>, Vec<u32>) = input.sources.into_iter().unzip();
-    let mut map = [0; 20];
-    add_to_map(input.run, &periods, &weights, &mut map).unwrap();
+fn example() -> (Run, Vec<u8>, [u8; 1024]) {
+    let (Input { run, .. }, map) = mapped("run 4 10 1 5\nsrc 7 60\nsrc 3 200\n");
     let mut file = [0; 1024];
-    save(input.run, &map, &mut file).unwrap();
-    (input.run, map, file)
+    save(run, &map, &mut file).unwrap();
+    (run, map, file)
 }
 
 #[test]
@@ -98,7 +115,7 @@ fn map_and_file_of_the_document() {
         assert_eq!((check(508), check(1020)), (294, 22_327));
         let mut back = [0; 20];
         assert_eq!(read(&file, &mut back), Ok(run));
-        assert_eq!(back, map);
+        assert_eq!(map, back);
     });
 }
 
@@ -125,12 +142,13 @@ fn columns_of_the_page() {
                 let byte = bytes[508 - row] as u32;
                 total += byte;
                 sum += total;
-                let Some(shown) = row.checked_sub(485) else {
+                if row < 485 {
                     assert_eq!((byte, total, sum), (0, 0, 0));
                     continue;
-                };
-                assert_eq!(rows[shown][..2], [row as u32, 508 - row as u32]);
-                assert_eq!(rows[shown][2 + 3 * block..][..3], [byte, total, sum]);
+                }
+                let shown = &rows[row - 485];
+                assert_eq!(shown[..2], [row as u32, 508 - row as u32]);
+                assert_eq!(shown[2 + 3 * block..][..3], [byte, total, sum]);
             }
             assert_eq!(bytes[508..], (sum + 1).to_le_bytes());
         }
@@ -165,9 +183,12 @@ fn line_limits_of_the_request() {
                 first,
                 last,
             };
-            assert_eq!(first_hit(run, 0, u64::MAX), alone(number));
-            assert_eq!(list_hits(run, 0, u64::MAX, &mut []), alone(number));
-            assert_eq!(add_to_map(run, &[0], &[0, 0], &mut []), alone(number));
+            let nothing = source(0, 0);
+            assert_eq!(first_hit(run, nothing, u64::MAX), alone(number));
+            let listing = list_hits(run, nothing, u64::MAX, &mut []);
+            assert_eq!(listing, alone(number));
+            let added = add_to_map(run, &[0], &[0, 0], &[], &mut []);
+            assert_eq!(added, alone(number));
             let (lowest, highest) = (1, 0);
             let guard = Guard { lowest, highest };
             assert_eq!(list_stretches(run, &[], 0, guard, &mut []), alone(number));
@@ -199,24 +220,152 @@ fn reads_back(run: Run, map: &[u8]) {
     assert_eq!(again, file);
 }
 
+/// The hits of a run of 24 cells, listed by the library.
+fn listed(run: Run, source: Source) -> Vec<u64> {
+    let mut room = [9; 24];
+    match list_hits(run, source, 0, &mut room) {
+        Ok(Listing::Done(count)) => room[..count].to_vec(),
+        other => panic!("{:?}, {:?}: {:?}", run, source, other),
+    }
+}
+
+/// A text with a run of 24 cells: how many hits each of its sources has, and the cells above 0 of its map, with their values.
+fn text_gives(text: &str, hits: &[usize], above_0: &[(usize, u8)]) {
+    texts::compare(text.as_bytes());
+    let (Input { run, sources }, map) = mapped(text);
+    let count = |&(source, _): &(Source, u32)| listed(run, source).len();
+    let counts: Vec<_> = sources.iter().map(count).collect();
+    assert_eq!(counts, hits, "{}", text);
+    let cells = map.iter().copied().enumerate();
+    let found: Vec<_> = cells.filter(|&(_, value)| value > 0).collect();
+    assert_eq!(found, above_0, "{}", text);
+    reads_back(run, &map);
+}
+
 /// The example of request E2: the document's sources from line 0 on.
 #[test]
 fn map_and_file_from_line_0() {
     trials("a map and a file from line 0", 1, |_| {
-        let text = "run 4 10 0 5\nsrc 7 60\nsrc 3 200\n";
-        let input = read_text(text.as_bytes()).unwrap();
-        text_says(text, Ok(input.clone()));
-        let mut room = [0; 24];
-        let mut count = |period| list_hits(input.run, period, 0, &mut room);
-        assert_eq!(count(7), Ok(Listing::Done(4)));
-        assert_eq!(count(3), Ok(Listing::Done(8)));
-        let mut map = [0; 24];
-        add_to_map(input.run, &[7, 3], &[60, 200], &mut map).unwrap();
-        let expected = [
-            0, 0, 255, 0, 200, 0, 0, 200, 0, 255, 0, 0, 0, 0, 200, 0, 255, 0, 0, 200, 0, 200, 0, 60,
+        let above_0 = [
+            (2, 255),
+            (4, 200),
+            (7, 200),
+            (9, 255),
+            (14, 200),
+            (16, 255),
+            (19, 200),
+            (21, 200),
+            (23, 60),
         ];
-        assert_eq!(map, expected);
-        reads_back(input.run, &map);
+        let text = "run 4 10 0 5\nsrc 7 60\nsrc 3 200\n";
+        text_gives(text, &[4, 8], &above_0);
+    });
+}
+
+/// The example of request E5: the same run with a phase; a line without one means phase 0.
+#[test]
+fn map_and_file_of_phases() {
+    trials("a map and a file of phases", 1, |_| {
+        let above_0 = [
+            (0, 60),
+            (2, 200),
+            (4, 200),
+            (7, 255),
+            (9, 200),
+            (14, 255),
+            (16, 200),
+            (19, 200),
+            (21, 255),
+        ];
+        for three in ["src 3 200\n", "src 3 200 0\n"] {
+            let text = ["run 4 10 0 5\nsrc 7 60 2\n", three].concat();
+            text_gives(&text, &[4, 8], &above_0);
+            let (input, _) = mapped(&text);
+            assert_eq!(input.sources, [(source(7, 2), 60), (source(3, 0), 200)]);
+        }
+    });
+}
+
+/// The last phase of the longest period: one edge a tick before sample 0, and no other near.
+#[test]
+fn last_phase_of_the_longest_period() {
+    trials("the last phase of the longest period", 1, |_| {
+        let text = "run 4 10 0 5\nsrc 2147483647 1 2147483646\n";
+        text_gives(text, &[1], &[(3, 1)]);
+    });
+}
+
+/// Where the period divides the interval, request E5's hits sit at one offset, on each line, or nowhere: the phases -i mod 9 of
+/// the offsets i are 2, 1, 0 and 8.
+#[test]
+fn phases_of_a_single_vector() {
+    trials("the phases of a single vector", 1, |_| {
+        single(9, 0, 4, 1);
+        let run = Run {
+            window: 4,
+            interval: 9,
+            first: 0,
+            last: 5,
+        };
+        assert_eq!(listed(run, source(9, 1)), [1, 5, 9, 13, 17, 21]);
+        for phase in 0..9 {
+            let at = [2, 1, 0, 8].iter().position(|&s| s == phase);
+            let cell = |line: u64| at.map(|distance| 4 * line + distance as u64);
+            let expected: Vec<u64> = (0..6).filter_map(cell).collect();
+            assert_eq!(listed(run, source(9, phase)), expected, "{}", phase);
+            let first = cell(0).map_or(FirstHit::Nothing, FirstHit::At);
+            assert_eq!(first_hit(run, source(9, phase), 0), Ok(first));
+        }
+        assert_eq!(first_hit(run, source(9, 9), 0), alone(22));
+    });
+}
+
+/// Request E5's refusals in a text: 22 after 4 and 7 in each source, and a number too many or too large is not of the form.
+#[test]
+fn texts_with_refused_phases() {
+    trials("texts with refused phases", 1, |_| {
+        let says = |sources: &str, answer| text_says(&["run 4 10 0 5\n", sources].concat(), answer);
+        says("src 7 0 7\n", of_source(7, 1));
+        says("src 7 1 7\n", of_source(22, 1));
+        says("src 0 1 0\n", of_source(4, 1));
+        says("src 0 0 0\n", of_source(4, 1));
+        says("src 2147483648 1 4294967295\n", of_source(4, 1));
+        says("src 2147483647 1 2147483647\n", of_source(22, 1));
+        says("src 7 60 4294967295\n", of_source(22, 1));
+        says("src 7 60 4294967296\n", alone(11));
+        says("src 7 60 2 1\n", alone(11));
+        says("src 7 60 7 1\n", alone(11));
+        says("src 7 60\nsrc 7 60 7\nsrc 0 60\n", of_source(22, 2));
+        says("src 7 60 6\nsrc 7 0 7\nsrc 7 60 7\n", of_source(7, 2));
+        text_says("run 4 10 1 0\nsrc 7 60 7\n", alone(17));
+        text_says("run 4 0 0 5\nsrc 7 60 7\n", alone(3));
+    });
+}
+
+/// In the calls with one source 22 comes after 4 and before 8 and 9, and has no place.
+#[test]
+fn hits_with_refused_phases() {
+    trials("hits with refused phases", 1, |_| {
+        let refused = [
+            (source(0, 0), u64::MAX, 4),
+            (source(2_147_483_648, u32::MAX), 0, 4),
+            (source(7, 7), u64::MAX, 22),
+            (source(7, 8), 20, 22),
+            (source(1, 1), 0, 22),
+            (source(7, u32::MAX), 0, 22),
+            (source(2_147_483_647, 2_147_483_647), 0, 22),
+            (source(7, 6), 20, 8),
+        ];
+        for (source, start, number) in refused {
+            assert_eq!(first_hit(BENCH, source, start), alone(number));
+            let mut room = [9];
+            for length in 0..=1 {
+                let listing = list_hits(BENCH, source, start, &mut room[..length]);
+                assert_eq!(listing, alone(number));
+            }
+            assert_eq!(room, [9]);
+        }
+        assert_eq!(list_hits(BENCH, source(7, 6), 19, &mut []), alone(9));
     });
 }
 
@@ -247,18 +396,27 @@ fn ends_of_runs_from_line_0() {
             last,
         };
         reads_back(run(2, 1, 0), &[7, 8]);
-        assert_eq!(first_hit(run(2, 1, 0), 5, 0), Ok(FirstHit::At(1)));
-        assert_eq!(first_hit(run(2, 1, 0), 5, 2), alone(8));
+        let smallest = |phase, start| first_hit(run(2, 1, 0), source(5, phase), start);
+        assert_eq!(smallest(0, 0), Ok(FirstHit::At(1)));
+        assert_eq!(smallest(1, 0), Ok(FirstHit::At(0)));
+        assert_eq!(smallest(1, 1), Ok(FirstHit::Nothing));
+        assert_eq!(smallest(4, 0), Ok(FirstHit::Nothing));
+        assert_eq!(smallest(0, 2), alone(8));
         text_says("run 4 10 0 16777217\n", alone(18));
         let largest = run(4096, 10, 16_777_216);
         let last = 68_719_480_831;
+        let every = source(1, 0);
         let reply = Ok(FirstHit::At(last));
-        assert_eq!(first_hit(largest, 1, last), reply);
-        assert_eq!(first_hit(largest, 1, last + 1), alone(8));
+        assert_eq!(first_hit(largest, every, last), reply);
+        assert_eq!(first_hit(largest, every, last + 1), alone(8));
         let mut room = [0; 2];
-        let listing = list_hits(largest, 1, last, &mut room);
+        let listing = list_hits(largest, every, last, &mut room);
         assert_eq!((listing, room), (Ok(Listing::Done(1)), [last, 0]));
-        assert_eq!(list_hits(largest, 1, last + 1, &mut room), alone(8));
+        assert_eq!(list_hits(largest, every, last + 1, &mut room), alone(8));
+        let edge = |phase| first_hit(largest, source(2_147_483_647, phase), last);
+        assert_eq!(edge(167_770_113), reply);
+        assert_eq!(edge(167_770_112), Ok(FirstHit::Nothing));
+        assert_eq!(edge(167_770_114), Ok(FirstHit::Nothing));
     });
 }
 
@@ -278,7 +436,7 @@ fn blanking(
 /// The document's map, by the library.
 fn bench_map() -> [u8; 20] {
     let mut map = [0; 20];
-    add_to_map(BENCH, &[7, 3], &[60, 200], &mut map).unwrap();
+    add_to_map(BENCH, &[7, 3], &[60, 200], &[0, 0], &mut map).unwrap();
     map
 }
 
@@ -335,16 +493,24 @@ fn places_of_the_request() {
         let text = "run 4 10 1 5\nsrc 7 60\nsrc 0 0\nsrc 9 0\n";
         text_says(text, of_source(4, 2));
         let mut map = [9; 19];
-        let mut add = |periods: &[u32], weights: &[u32]| {
-            let answer = add_to_map(BENCH, periods, weights, &mut map);
+        let mut add = |periods: &[u32], weights: &[u32], phases: &[u32]| {
+            let answer = add_to_map(BENCH, periods, weights, phases, &mut map);
             assert_eq!(map, [9; 19]);
             answer
         };
-        assert_eq!(add(&[7, 3], &[60, 256]), of_source(7, 2));
-        assert_eq!(add(&[7, 0, 9], &[60, 0, 0]), of_source(4, 2));
-        assert_eq!(add(&[7, 3, 0], &[0, 256, 0]), of_source(7, 1));
-        assert_eq!(add(&[7, 3], &[60, 255]), alone(9));
-        assert_eq!(add(&[0, 3], &[60]), alone(10));
+        assert_eq!(add(&[7, 3], &[60, 256], &[6, 2]), of_source(7, 2));
+        assert_eq!(add(&[7, 0, 9], &[60, 0, 0], &[0; 3]), of_source(4, 2));
+        assert_eq!(add(&[7, 3, 0], &[0, 256, 0], &[0; 3]), of_source(7, 1));
+        assert_eq!(add(&[7, 3], &[60, 255], &[6, 3]), of_source(22, 2));
+        assert_eq!(add(&[7, 3], &[60, 256], &[7, 3]), of_source(22, 1));
+        assert_eq!(add(&[7, 3], &[0, 60], &[7, 3]), of_source(7, 1));
+        assert_eq!(add(&[7, 3], &[60, 255], &[6, 2]), alone(9));
+        assert_eq!(add(&[0, 3], &[60], &[0, 0]), alone(10));
+        assert_eq!(add(&[0], &[60, 0], &[0, 0]), alone(10));
+        assert_eq!(add(&[0, 3], &[60, 0], &[0]), alone(10));
+        assert_eq!(add(&[0, 3], &[60, 0], &[0; 3]), alone(10));
+        assert_eq!(add(&[], &[], &[7]), alone(10));
+        assert_eq!(add(&[], &[], &[]), alone(9));
     });
 }
 
@@ -353,10 +519,11 @@ fn places_of_the_request() {
 fn refusals_without_a_place() {
     trials("refusals without a place", 1, |_| {
         assert_eq!(step_vectors(0, 0, 4), alone(4));
-        assert_eq!(first_hit(BENCH, 0, 0), alone(4));
-        assert_eq!(list_hits(BENCH, 0, 0, &mut [0]), alone(4));
+        assert_eq!(first_hit(BENCH, source(0, 0), 0), alone(4));
+        assert_eq!(list_hits(BENCH, source(0, 0), 0, &mut [0]), alone(4));
         let run = "run 4 10 1 5\n";
         text_says(&[run, &"src 0 0\n".repeat(65)].concat(), alone(12));
+        text_says(&[run, &"src 7 60 7\n".repeat(65)].concat(), alone(12));
         text_says(&[run, "src 0 0\nsrc 7\n"].concat(), alone(11));
     });
 }
@@ -369,12 +536,12 @@ fn reason(number: u8) -> String {
     words.strip_prefix(&start).unwrap().to_string()
 }
 
-/// There are words for all numbers that are given, which are those up to 21 without 2 and 16, and no two share them.
+/// There are words for all numbers that are given, which are those up to 22 without 2 and 16, and no two share them.
 #[test]
 fn every_refusal_has_its_words() {
     let unknown = reason(0);
-    for number in 1..=22 {
-        let given = ![2, 16, 22].contains(&number);
+    for number in 1..=23 {
+        let given = ![2, 16, 23].contains(&number);
         assert_eq!(reason(number) != unknown, given, "{}", number);
         for other in 1..number {
             let same = reason(other) == reason(number);

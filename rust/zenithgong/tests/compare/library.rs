@@ -1,6 +1,6 @@
 //! The library's operations under their own names, each call counted: the tests call no other way.
 use std::cell::Cell;
-use zenithgong::{FirstHit, Guard, Input, Listing, Refusal, Run, Steps};
+use zenithgong::{FirstHit, Guard, Input, Listing, Refusal, Run, Source, Steps};
 
 thread_local! {
     static CALLS: Cell<u64> = const { Cell::new(0) };
@@ -20,21 +20,27 @@ pub fn step_vectors(period: u32, remainder: u32, window: u32) -> Result<Steps, R
     counted(zenithgong::step_vectors(period, remainder, window))
 }
 
-pub fn first_hit(run: Run, period: u32, start: u64) -> Result<FirstHit, Refusal> {
-    counted(zenithgong::first_hit(run, period, start))
+pub fn first_hit(run: Run, source: Source, start: u64) -> Result<FirstHit, Refusal> {
+    counted(zenithgong::first_hit(run, source, start))
 }
 
-pub fn list_hits(run: Run, period: u32, start: u64, room: &mut [u64]) -> Result<Listing, Refusal> {
-    counted(zenithgong::list_hits(run, period, start, room))
+pub fn list_hits(
+    run: Run,
+    source: Source,
+    start: u64,
+    room: &mut [u64],
+) -> Result<Listing, Refusal> {
+    counted(zenithgong::list_hits(run, source, start, room))
 }
 
 pub fn add_to_map(
     run: Run,
     periods: &[u32],
     weights: &[u32],
+    phases: &[u32],
     map: &mut [u8],
 ) -> Result<(), Refusal> {
-    counted(zenithgong::add_to_map(run, periods, weights, map))
+    counted(zenithgong::add_to_map(run, periods, weights, phases, map))
 }
 
 pub fn list_stretches(

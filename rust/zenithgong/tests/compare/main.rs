@@ -8,6 +8,7 @@ mod hits;
 mod library;
 mod maps;
 mod refusals;
+mod sources;
 mod support;
 mod texts;
 mod vectors;

@@ -1,39 +1,37 @@
 use crate::library;
+use crate::sources::Lists;
 use crate::support::{told, trials, wide, Random};
 use reference::Reply;
-use zenithgong::Run;
+use zenithgong::{Run, Source};
 
-fn ours(run: Run, periods: &[u32], weights: &[u32], map: &mut [u8]) -> Reply<()> {
-    library::add_to_map(run, periods, weights, map).map_err(told)
+fn ours(run: Run, lists: &Lists, map: &mut [u8]) -> Reply<()> {
+    library::add_to_map(run, &lists.periods, &lists.weights, &lists.phases, map).map_err(told)
 }
 
-/// Periods and weights of so many sources, all within the limits.
-fn sources(random: &mut Random, count: u64) -> (Vec<u32>, Vec<u32>) {
-    (0..count)
-        .map(|_| (random.period(), random.between(1, 255)))
-        .unzip()
-}
-
-/// One call, held to the reference, which goes by all cells or by lines; and the reference's map after it.
-pub fn compare(run: Run, periods: &[u32], weights: &[u32], map: Vec<u8>, by_line: bool) -> Vec<u8> {
-    let (mut map, mut after) = (map.clone(), map);
-    let hits = |run: &reference::Run, p: i128| {
+fn expected(run: Run, lists: &Lists, map: &mut [u8], by_line: bool) -> Reply<()> {
+    let hits = |run: &reference::Run, source: reference::Source| {
         if by_line {
-            run.hits_by_line(p)
+            run.hits_by_line(source)
         } else {
-            run.hits(p)
+            run.hits(source)
         }
     };
-    let expected = reference::add_to_map(&wide(run), periods, weights, &mut after, hits);
-    let words = || format!("{:?}, periods {:?}, weights {:?}", run, periods, weights);
-    assert_eq!(
-        ours(run, periods, weights, &mut map),
-        expected,
-        "{}",
-        words()
-    );
+    let Lists {
+        periods,
+        weights,
+        phases,
+    } = lists;
+    reference::add_to_map(&wide(run), periods, weights, phases, map, hits)
+}
+
+/// One call, held to the reference, which goes by all cells or by lines; and the map after it, or the refusal.
+pub fn compare(run: Run, lists: &Lists, map: Vec<u8>, by_line: bool) -> Reply<Vec<u8>> {
+    let (mut map, mut after) = (map.clone(), map);
+    let expected = expected(run, lists, &mut after, by_line);
+    let words = || format!("{:?}, {:?}", run, lists);
+    assert_eq!(ours(run, lists, &mut map), expected, "{}", words());
     assert!(map == after, "{}: the maps differ", words());
-    after
+    expected.map(|()| after)
 }
 
 #[test]
@@ -41,24 +39,30 @@ fn small() {
     trials("small maps", 20_000, |random| {
         let run = random.any_run();
         let count = random.below(5);
-        let (mut periods, mut weights) = sources(random, count);
+        let mut lists = random.lists(run, count);
         if random.one_in(8) {
             let at = random.below(count + 1) as usize;
-            periods.insert(at, random.number());
-            weights.insert(at, random.number());
+            lists.insert(at, random.any_source(run), random.number());
         }
         if random.one_in(12) {
-            weights.push(1);
+            lists.make_unequal(random);
         }
         let cells = wide(run).cells().clamp(0, 20_000) as u64;
         let length = if random.one_in(10) { cells ^ 1 } else { cells };
-        compare(
-            run,
-            &periods,
-            &weights,
-            random.bytes(length as usize),
-            false,
-        );
+        compare(run, &lists, random.bytes(length as usize), false).ok();
+    });
+}
+
+/// Sources with a single vector, whose hits are at one offset each, or nowhere.
+#[test]
+fn of_single_vectors() {
+    trials("maps of single vectors", 4_000, |random| {
+        let (run, factor) = random.run_with_factor();
+        let source =
+            |random: &mut Random| (random.single_source(run, factor), random.between(1, 255));
+        let lists: Lists = (0..random.below(5)).map(|_| source(random)).collect();
+        let map = random.bytes(wide(run).cells() as usize);
+        compare(run, &lists, map, false).unwrap();
     });
 }
 
@@ -76,21 +80,26 @@ fn calls_of_blocks(random: &mut Random, run: Run, sources: usize) -> Vec<(Run, u
     calls
 }
 
+/// The lists of one source alone.
+fn one(source: (Source, u32)) -> Lists {
+    Lists::from_iter([source])
+}
+
 #[test]
 fn blocks_in_any_order() {
     trials("maps of blocks", 2_000, |random| {
         let (run, count) = (random.small_run(), random.below(5) as usize);
-        let (periods, weights) = sources(random, count as u64);
+        let lists = random.lists(run, count as u64);
+        let alone: Vec<Lists> = lists.sources().into_iter().map(one).collect();
         let mut map = random.bytes(wide(run).cells() as usize);
-        let whole = compare(run, &periods, &weights, map.clone(), false);
+        let whole = compare(run, &lists, map.clone(), false).unwrap();
         let calls = calls_of_blocks(random, run, count);
         for &(block, k) in &calls {
             let start = ((block.first - run.first) * run.window) as usize;
             let cells = &mut map[start..start + wide(block).cells() as usize];
-            ours(block, &periods[k..=k], &weights[k..=k], cells).unwrap();
+            ours(block, &alone[k], cells).unwrap();
         }
-        let words = || format!("{:?}, periods {:?}, weights {:?}", run, periods, weights);
-        assert!(map == whole, "{} by {:?}", words(), calls);
+        assert!(map == whole, "{:?}, {:?} by {:?}", run, lists, calls);
     });
 }
 
@@ -114,13 +123,14 @@ fn of_65_536_cells() {
     trials("maps of 65,536 cells", 40, |random| {
         let window = 2 << random.below(12);
         let run = run_of(random, window, 65_536 / window);
-        let (periods, weights) = sources(random, 8);
-        compare(run, &periods, &weights, random.bytes(65_536), true);
+        let lists = random.lists(run, 8);
+        compare(run, &lists, random.bytes(65_536), true).unwrap();
     });
 }
 
 /// Maps above 1 MiB by at most two lines. Periods below 2,048 are added to them block by block, others not: both come, and all
-/// between. The weights are small, so that few cells come to the ceiling.
+/// between. At one interval in three, multiples of 2,048 have a single vector, if they are as long as the window. The weights are
+/// small, so that few cells come to the ceiling.
 #[test]
 fn long() {
     trials("maps above 1 MiB", 40, |random| {
@@ -130,7 +140,10 @@ fn long() {
             _ => 2 * random.between(1, 2_048),
         };
         let lines = 1_048_576 / window + random.between(1, 2);
-        let run = run_of(random, window, lines);
+        let mut run = run_of(random, window, lines);
+        if random.one_in(3) {
+            run.interval = 122_880 * random.between(1, 30_000);
+        }
         let source = |random: &mut Random| {
             let period = match random.below(4) {
                 0 => random.between(1, 2_047),
@@ -138,14 +151,16 @@ fn long() {
                 2 => 2_048 * random.between(1, 6),
                 _ => random.between(1, 2_147_483_647),
             };
-            (period, random.between(1, 60))
+            (random.source_of(run, period), random.between(1, 60))
         };
-        let (periods, weights): (Vec<_>, Vec<_>) = (0..6).map(|_| source(random)).unzip();
+        let lists: Lists = (0..6).map(|_| source(random)).collect();
         let map = random.bytes((window * lines) as usize);
-        compare(run, &periods, &weights, map, true);
+        compare(run, &lists, map, true).unwrap();
     });
 }
 
+/// A million and three ticks as the period of one source; the others, whose period divides the interval, hit offset -1 on every
+/// line and nothing.
 #[test]
 fn of_the_longest_run() {
     trials("the map of 16,777,217 lines", 1, |random| {
@@ -155,7 +170,12 @@ fn of_the_longest_run() {
             first: 0,
             last: 16_777_216,
         };
+        let lists = Lists {
+            periods: vec![1_000_003, 2_147_483_647, 2_147_483_647],
+            weights: vec![200, 100, 50],
+            phases: vec![1_000_002, 1, 2_147_483_646],
+        };
         let map = vec![random.next() as u8; 33_554_434];
-        compare(run, &[1_000_003, 2_147_483_647], &[200, 100], map, true);
+        compare(run, &lists, map, true).unwrap();
     });
 }

@@ -1,17 +1,31 @@
 //! Every set of faults of every call, each fault in one of its forms, and everything else at an end of its range or small. What
-//! is expected is the reference's, which takes the tests in 01's order, with E1's line limits and places of sources, and those of
-//! the blanking list in E3's.
+//! is expected is the reference's, which takes the tests in 01's order, with E1's line limits and places of sources and E5's
+//! phases, and those of the blanking list in E3's.
 use crate::blanking::{self, Asked};
+use crate::sources::Lists;
 use crate::support::{trials, wide, Random};
 use crate::{files, hits, maps, texts, vectors};
+use reference::Reply;
 use std::cell::RefCell;
-use zenithgong::{Guard, Run};
+use zenithgong::{Guard, Run, Source};
 
 /// The faults of a run are the first three bits of every set but the vectors' and the blanking list's.
 const RUN: u32 = 3;
 
 fn has(faults: u64, fault: u32) -> bool {
     faults >> fault & 1 == 1
+}
+
+/// The number of a refusal, or 0.
+fn number<T>(said: Reply<T>) -> u8 {
+    said.map_or_else(|refusal| refusal.number, |_| 0)
+}
+
+/// Whether a number is what the first fault of a set brings, or 0 where there is none. The order has the numbers of each fault,
+/// and the call takes its tests so.
+fn is_first(number: u8, faults: u64, order: &[&[u8]]) -> bool {
+    let first = (0..).zip(order).find(|&(fault, _)| has(faults, fault));
+    first.map_or(number == 0, |(_, numbers)| numbers.contains(&number))
 }
 
 fn pick(random: &mut Random, from: &[u32]) -> u32 {
@@ -30,7 +44,16 @@ fn period(random: &mut Random, bad: bool) -> u32 {
     if bad {
         pick(random, &[0, 2_147_483_648, u32::MAX])
     } else {
-        pick(random, &[1, 2_147_483_647])
+        pick(random, &[1, 7, 2_147_483_647])
+    }
+}
+
+/// A phase of a period: 0, near the middle, the last one; a bad one is not below the period. To a period of 0 each is bad.
+fn phase(random: &mut Random, bad: bool, period: u32) -> u32 {
+    if bad {
+        pick(random, &[period, period.saturating_add(1), u32::MAX])
+    } else {
+        pick(random, &[0, period / 2, period.saturating_sub(1)])
     }
 }
 
@@ -88,29 +111,32 @@ fn length(random: &mut Random, bad: bool, right: i128, step: usize) -> usize {
     }
 }
 
-/// So many sources, of which up to three may have a faulty period and up to three a faulty weight.
-fn sources(random: &mut Random, count: usize, faults: u64, fault: u32) -> (Vec<u32>, Vec<u32>) {
-    let mut periods: Vec<u32> = (0..count).map(|_| random.period()).collect();
-    let mut weights: Vec<u32> = (0..count).map(|_| random.between(1, 255)).collect();
-    for _ in 0..random.between(1, 3) {
-        let at = random.below(count as u64) as usize;
-        periods[at] = period(random, has(faults, fault));
-        let at = random.below(count as u64) as usize;
-        weights[at] = weight(random, has(faults, fault + 1));
-    }
-    (periods, weights)
+/// Up to three places of lists of so many sources.
+fn places(random: &mut Random, count: usize) -> Vec<usize> {
+    (0..random.between(1, 3))
+        .map(|_| random.below(count as u64) as usize)
+        .collect()
 }
 
-/// The text of a run and its sources.
-fn text(run: Run, periods: &[u32], weights: &[u32]) -> String {
-    let mut text = format!(
-        "run {} {} {} {}\n",
-        run.window, run.interval, run.first, run.last
-    );
-    for (period, weight) in periods.iter().zip(weights) {
-        text += &format!("src {} {}\n", period, weight);
+/// So many sources, of which up to three may have a faulty period, up to three a faulty weight and up to three a faulty phase.
+fn sources(random: &mut Random, count: usize, faults: u64, fault: u32) -> Lists {
+    let mut periods: Vec<u32> = (0..count).map(|_| random.period()).collect();
+    for at in places(random, count) {
+        periods[at] = period(random, has(faults, fault));
     }
-    text
+    let mut weights: Vec<u32> = (0..count).map(|_| random.between(1, 255)).collect();
+    for at in places(random, count) {
+        weights[at] = weight(random, has(faults, fault + 1));
+    }
+    let mut phases: Vec<u32> = periods.iter().map(|&p| phase(random, false, p)).collect();
+    for at in places(random, count) {
+        phases[at] = phase(random, has(faults, fault + 2), periods[at]);
+    }
+    Lists {
+        periods,
+        weights,
+        phases,
+    }
 }
 
 #[test]
@@ -133,41 +159,52 @@ fn of_vectors() {
     });
 }
 
+/// The order of the listing, which is that of the first hit too, but for the last.
+const LISTING: [&[u8]; 7] = [&[1], &[17, 18], &[3], &[4], &[22], &[8], &[9]];
+
 #[test]
 fn of_hits() {
-    trials("faults of first hit and listing", 100 * 64, |random| {
-        let faults = random.seed() % 64;
+    trials("faults of first hit and listing", 100 * 128, |random| {
+        let faults = random.seed() % 128;
         let run = run(random, faults);
         let period = period(random, has(faults, RUN));
+        let phase = phase(random, has(faults, RUN + 1), period);
+        let source = Source { period, phase };
         let cells = wide(run).cells().clamp(0, i64::MAX as i128) as u64;
-        let starts = match has(faults, RUN + 1) {
+        let starts = match has(faults, RUN + 2) {
             true => [cells, cells + 1, u64::MAX],
             false => [0, cells / 2, cells.saturating_sub(1)],
         };
         let start = starts[random.below(3) as usize];
-        let room = if has(faults, RUN + 2) { 0 } else { 3 };
-        hits::compare_any(random, run, period, start, room);
+        let room = if has(faults, RUN + 3) { 0 } else { 3 };
+        let said = hits::compare_any(random, run, source, start, room);
+        assert!(is_first(number(said), faults, &LISTING));
     });
 }
+
+/// The order of the map call with one source.
+const MAP: [&[u8]; 8] = [&[1], &[17, 18], &[3], &[10], &[4], &[7], &[22], &[9]];
 
 #[test]
 fn of_maps() {
-    trials("faults of the map", 400 * 128, |random| {
-        let faults = random.seed() % 128;
+    trials("faults of the map", 200 * 256, |random| {
+        let faults = random.seed() % 256;
         let run = run(random, faults);
         let count = pick(random, &[1, 3, 9]);
-        let (periods, mut weights) = sources(random, count as usize, faults, RUN + 1);
+        let mut lists = sources(random, count as usize, faults, RUN + 1);
         if has(faults, RUN) {
-            weights.pop();
+            lists.make_unequal(random);
         }
         let cells = wide(run).cells();
-        let length = length(random, has(faults, RUN + 3), cells, 1);
+        let length = length(random, has(faults, RUN + 4), cells, 1);
         let map = random.bytes(length);
-        maps::compare(run, &periods, &weights, map, false);
+        let said = maps::compare(run, &lists, map, false);
+        assert!(count > 1 || is_first(number(said), faults, &MAP));
     });
 }
 
-/// The map call and a text with the same list, any source of which may be at fault in its period, its weight or both.
+/// The map call and a text with the same lists, any source of which may be at fault in its period, its weight, its phase, or in
+/// more than one of them.
 #[test]
 fn of_lists() {
     trials("faults of sources in lists", 50_000, |random| {
@@ -178,27 +215,38 @@ fn of_lists() {
         let count = pick(random, &[1, 2, 3, 5, 10, 64]) as u64;
         let rare = random.between(1, 2 * count) as u64;
         let source = |random: &mut Random| {
-            let (one, other) = (random.one_in(rare), random.one_in(rare));
-            (period(random, one), weight(random, other))
+            let [of_period, of_weight, of_phase] = [(); 3].map(|_| random.one_in(rare));
+            let period = period(random, of_period);
+            let phase = phase(random, of_phase, period);
+            (Source { period, phase }, weight(random, of_weight))
         };
-        let (periods, weights): (Vec<_>, Vec<_>) = (0..count).map(|_| source(random)).unzip();
-        texts::compare(text(small, &periods, &weights).as_bytes());
+        let lists: Lists = (0..count).map(|_| source(random)).collect();
+        texts::compare(&texts::text_of(random, small, &lists));
         let off = random.one_in(4);
         let length = length(random, off, wide(small).cells(), 1);
         let map = random.bytes(length);
-        maps::compare(small, &periods, &weights, map, false);
+        maps::compare(small, &lists, map, false).ok();
     });
 }
 
-/// Places of one byte, of two and of three; the source after the first at fault is at fault too.
+/// Places of one byte, of two and of three; the two sources after the first at fault are at fault too, each in another number.
 #[test]
 fn of_long_lists() {
     trials("faults of sources in long lists", 1, |random| {
-        for place in [64, 254, 255, 256, 65_534, 65_535, 65_536, 69_998] {
-            let (mut periods, mut weights) = (vec![7; 70_000], vec![60; 70_000]);
-            periods[place] = period(random, true);
-            weights[place + 1] = weight(random, true);
-            maps::compare(run(random, 0), &periods, &weights, Vec::new(), false);
+        let good = Lists {
+            periods: vec![7; 70_000],
+            weights: vec![60; 70_000],
+            phases: vec![6; 70_000],
+        };
+        for place in [64, 254, 255, 256, 65_534, 65_535, 65_536, 69_997] {
+            for turn in 0..3 {
+                let mut lists = good.clone();
+                lists.periods[place + turn % 3] = period(random, true);
+                lists.weights[place + (turn + 1) % 3] = weight(random, true);
+                lists.phases[place + (turn + 2) % 3] = phase(random, true, 7);
+                let said = maps::compare(run(random, 0), &lists, Vec::new(), false);
+                assert_eq!(said.unwrap_err().place, Some(place as u64 + 1));
+            }
         }
     });
 }
@@ -279,7 +327,7 @@ fn stretches_refused(random: &mut Random, faults: u64) -> u8 {
     let stretches = run.last.saturating_sub(run.first).min(3) / 2 + 1;
     let room = room_for(random, has(faults, 7), stretches);
     let said = blanking::compare(random, &asked, &striped(cells, run.window), room);
-    said.map_or_else(|refusal| refusal.number, |_| 0)
+    number(said)
 }
 
 /// What is refused is the first fault of the set: so each number is given as often as there are sets that lack all before it.
@@ -392,10 +440,26 @@ fn of_reading() {
     });
 }
 
+/// Ends of a text that are not of the form.
+const ENDS: [&str; 12] = [
+    "\n",
+    " \n",
+    "src 1\n",
+    "scr 1 1\n",
+    "src 01 1\n",
+    "src 4294967296 1\n",
+    "src 1 1",
+    "src 1 1 0",
+    "src 1 1 \n",
+    "src 1 1 00\n",
+    "src 1 1 4294967296\n",
+    "src 1 1 0 0\n",
+];
+
 #[test]
 fn of_texts() {
-    trials("faults of texts", 200 * 256, |random| {
-        let faults = random.seed() % 256;
+    trials("faults of texts", 100 * 512, |random| {
+        let faults = random.seed() % 512;
         let mut run = run(random, faults);
         if has(faults, RUN + 1) && !has(faults, 1) {
             run.last = 16_777_216;
@@ -406,20 +470,12 @@ fn of_texts() {
         } else {
             pick(random, &[1, 5, 64])
         };
-        let (periods, weights) = sources(random, count as usize, faults, RUN + 2);
-        let mut text = text(run, &periods, &weights);
-        if has(faults, RUN + 4) {
-            let ends = [
-                "\n",
-                " \n",
-                "src 1\n",
-                "scr 1 1\n",
-                "src 01 1\n",
-                "src 4294967296 1\n",
-                "src 1 1",
-            ];
-            text += ends[random.below(7) as usize];
+        let lists = sources(random, count as usize, faults, RUN + 2);
+        let mut text = texts::text_of(random, run, &lists);
+        if has(faults, RUN + 5) {
+            let end = ENDS[random.below(ENDS.len() as u64) as usize];
+            text.extend(end.bytes());
         }
-        texts::compare(text.as_bytes());
+        texts::compare(&text);
     });
 }

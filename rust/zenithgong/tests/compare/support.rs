@@ -1,6 +1,6 @@
 //! Random inputs, one seed a trial; what a trial calls is counted.
 use crate::library::calls;
-use zenithgong::{Refusal, Run};
+use zenithgong::{Refusal, Run, Source};
 
 /// Numbers at and around which something changes.
 const EDGES: [u64; 8] = [
@@ -124,6 +124,14 @@ pub fn wide(run: Run) -> reference::Run {
         interval: run.interval as i128,
         first: run.first as i128,
         last: run.last as i128,
+    }
+}
+
+/// A source, as the reference has it.
+pub fn wide_source(source: Source) -> reference::Source {
+    reference::Source {
+        period: source.period as i128,
+        phase: source.phase as i128,
     }
 }
 

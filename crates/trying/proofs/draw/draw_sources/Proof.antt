@@ -10,8 +10,8 @@ pub draw-sources-spec : {M : Type 1} → statement M
 draw-sources-spec =
     tie.close
     (tie.spec
-    (λ periods₀ weights₀ case state seldom all last₀ s₀ k₀ periods weights last s k. length periods ≡ length periods₀ × length weights ≡ length weights₀)
-    (λ periods₀ weights₀ case state seldom all last₀ s₀ k₀ periods weights last s k. all - k)
+    (λ periods₀ weights₀ phases₀ case state seldom all last₀ s₀ k₀ periods weights phases last s k. length periods ≡ length periods₀ × length weights ≡ length weights₀ × length phases ≡ length phases₀)
+    (λ periods₀ weights₀ phases₀ case state seldom all last₀ s₀ k₀ periods weights phases last s k. all - k)
     (λ c. search needs)
     (λ c κs. search needs)
     (λ c κs. search needs)
@@ -21,6 +21,7 @@ draw-sources-spec =
     (λ c κs. search needs)
     (λ c κs. search needs)
     (λ c κs. search needs)
+    (λ c. search needs)
     (λ c. search needs)
     (λ c. search needs)
     (λ c. search needs)

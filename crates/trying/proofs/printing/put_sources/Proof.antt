@@ -10,14 +10,13 @@ pub put-sources-spec : {M : Type 1} → statement M
 put-sources-spec =
     tie.close
     (tie.spec
-    (λ room₀ at run periods weights all next₀ k₀ room next k. length room ≡ length room₀)
-    (λ room₀ at run periods weights all next₀ k₀ room next k. all - k)
+    (λ room₀ at run periods weights phases all next₀ k₀ room next k. length room ≡ length room₀)
+    (λ room₀ at run periods weights phases all next₀ k₀ room next k. all - k)
     (λ c. search needs)
     (λ c. search needs)
     (λ c κs. search needs)
     (λ c κs. search needs)
-    (λ c. search needs)
-    (λ c. search needs)
+    (λ c κs. search needs)
     (λ c κs. search needs)
     (λ c. search needs)
     (λ c. search needs)

@@ -8,12 +8,9 @@ pub count-at-fault-spec : {M : Type 1} → statement M
 count-at-fault-spec =
     tie.close
     (tie.spec
-    (λ periods weights all count₀ k₀ count k. Unit {0})
-    (λ periods weights all count₀ k₀ count k. all - k)
+    (λ periods weights phases all count₀ k₀ count k. Unit {0})
+    (λ periods weights phases all count₀ k₀ count k. all - k)
     (λ c. search needs)
-    (λ c. search needs)
-    (λ c. search needs)
-    (λ c κs. search needs)
     (λ c κs. search needs)
     (λ c. search needs)
     (λ c κs. search needs)

@@ -10,8 +10,8 @@ pub expect-map-spec : {M : Type 1} → statement M
 expect-map-spec =
     tie.close
     (tie.spec
-    (λ run periods weights map₀ all x₀ map x. length map ≡ length map₀)
-    (λ run periods weights map₀ all x₀ map x. all - x)
+    (λ run periods weights phases map₀ all x₀ map x. length map ≡ length map₀)
+    (λ run periods weights phases map₀ all x₀ map x. all - x)
     (λ c. search needs)
     (λ c. search needs)
     (λ c κs. search needs)

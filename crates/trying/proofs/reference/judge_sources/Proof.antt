@@ -8,12 +8,9 @@ pub judge-sources-spec : {M : Type 1} → statement M
 judge-sources-spec =
     tie.close
     (tie.spec
-    (λ periods weights all k₀ k. Unit {0})
-    (λ periods weights all k₀ k. all - k)
+    (λ periods weights phases all k₀ k. Unit {0})
+    (λ periods weights phases all k₀ k. all - k)
     (λ c. search needs)
-    (λ c. search needs)
-    (λ c. search needs)
-    (λ c κs. search needs)
     (λ c κs. search needs)
     (λ c. search needs)
     (λ c. search needs)

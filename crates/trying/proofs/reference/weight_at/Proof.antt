@@ -8,11 +8,10 @@ pub weight-at-spec : {M : Type 1} → statement M
 weight-at-spec =
     tie.close
     (tie.spec
-    (λ run periods weights cell all sum₀ k₀ sum k. Unit {0})
-    (λ run periods weights cell all sum₀ k₀ sum k. all - k)
+    (λ run periods weights phases cell all sum₀ k₀ sum k. Unit {0})
+    (λ run periods weights phases cell all sum₀ k₀ sum k. all - k)
     (λ c. search needs)
-    (λ c. search needs)
-    (λ c. search needs)
+    (λ c κs. search needs)
     (λ c κs. search needs)
     (λ c κs. search needs)
     (λ c κs. search needs)

@@ -10,14 +10,14 @@ pub put-text-spec : {M : Type 1} → statement M
 put-text-spec =
     tie.close
     (tie.spec
-    (λ room₀ periods weights count line next₀ k₀ room next k. length room ≡ length room₀)
-    (λ room₀ periods weights count line next₀ k₀ room next k. count - k)
+    (λ room₀ periods weights phases state count line next₀ s₀ k₀ room next s k. length room ≡ length room₀)
+    (λ room₀ periods weights phases state count line next₀ s₀ k₀ room next s k. count - k)
     (λ c κs. search needs)
     (λ c. search needs)
     (λ c κs. search needs)
     (λ c. search needs)
-    (λ c. search needs)
-    (λ c. search needs)
+    (λ c κs. search needs)
+    (λ c κs. search needs)
     (λ c κs. search needs)
     (λ c κs. search needs)
     (λ c. search needs)
