@@ -368,6 +368,7 @@ static void measure_calls(const set *s, uint32_t window, int phased) {
     measure(row, "call", call_first, "+-+++-");
 }
 
+// The listing of a run of so many MiB.
 static void measure_list(const set *s, uint32_t window, int mib, int phased) {
     char row[64];
     choose(s, phased);
@@ -376,6 +377,7 @@ static void measure_list(const set *s, uint32_t window, int mib, int phased) {
     measure(row, "hit", call_list, "+-+++-");
 }
 
+// Saving and reading, against C that works a block's check out in either way.
 static void measure_files(void) {
     char row[64];
     for (int k = 0; k < 2 * 2; k++) {
@@ -391,6 +393,7 @@ static void measure_files(void) {
     }
 }
 
+// The blanking list of maps that few lines or most reach, over half the window and over all of it.
 static void measure_blanking(void) {
     char row[64];
     for (int k = 0; k < 2 * 2 * 2; k++) {

@@ -44,8 +44,8 @@ steps_reply *zenithgong_step_vectors(steps_reply *reply, uint32_t period, uint32
 first_hit_reply zenithgong_first_hit(RUN, uint32_t period, uint32_t phase, uint64_t start);
 listing_reply *zenithgong_list_hits(listing_reply *reply, RUN, uint32_t period, uint32_t phase, uint64_t start, uint64_t *room,
                                     size_t length);
-added_reply zenithgong_add_to_map(RUN, const uint32_t *periods, size_t sources, const uint32_t *weights, size_t as_many,
-                                  const uint32_t *phases, size_t as_many_again, uint8_t *map, size_t cells);
+added_reply zenithgong_add_to_map(RUN, const uint32_t *periods, size_t periods_length, const uint32_t *weights, size_t weights_length,
+                                  const uint32_t *phases, size_t phases_length, uint8_t *map, size_t cells);
 blanking_reply zenithgong_list_stretches(RUN, const uint8_t *map, size_t cells, uint8_t threshold, int64_t lowest, int64_t highest,
                                          uint32_t *room, size_t length);
 uint8_t zenithgong_save(RUN, const uint8_t *map, size_t cells, uint8_t *file, size_t length);

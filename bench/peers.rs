@@ -251,9 +251,9 @@ pub unsafe extern "C" fn rust_list(run: Run, source: Source, start: u64, room: *
 #[no_mangle]
 pub unsafe extern "C" fn rust_walk(run: Run, periods: *const u32, weights: *const u32, phases: *const u32, n: usize, map: *mut u8) {
     let cells = run.window as usize * (run.last - run.first + 1) as usize;
-    let list = |numbers| std::slice::from_raw_parts(numbers, n);
+    let of = |numbers| std::slice::from_raw_parts(numbers, n);
     let map = std::slice::from_raw_parts_mut(map, cells);
-    for ((&period, &weight), &phase) in list(periods).iter().zip(list(weights)).zip(list(phases)) {
+    for ((&period, &weight), &phase) in of(periods).iter().zip(of(weights)).zip(of(phases)) {
         let source = Source { period, phase };
         if period < run.window {
             add_rows(run, source, weight as u8, map);

@@ -128,16 +128,16 @@ module _ (file map : List ℕ) (answer : Loaded) (after : List ℕ) (h : Reading
 
 -- ---- calls with a list of sources
 
--- 4, 7 and 22 concern a source, and no other number below 22 does
-row : (count n : ℕ) → n < 22 → n ≢ 4 → n ≢ 7 → RightPlace count n Nowhere
-row count n low a b (inl (inl e)) = a e
-row count n low a b (inl (inr e)) = b e
-row count n low a b (inr e) = omega arith
+-- 4, 7 and 22 concern a source, and no other number does
+no-source : (count n : ℕ) → n ≢ 4 → n ≢ 7 → n ≢ 22 → RightPlace count n Nowhere
+no-source count n a b c (inl (inl e)) = a e
+no-source count n a b c (inl (inr e)) = b e
+no-source count n a b c (inr e) = c e
 
 run-placed : (count : ℕ) (run : Run) → Every (RightPlace count) (runTable run)
 run-placed count run = (
-  row count 1 (omega arith) (λ e. omega arith) (λ e. omega arith),
-  (row count 17 (omega arith) (λ e. omega arith) (λ e. omega arith), (row count 18 (omega arith) (λ e. omega arith) (λ e. omega arith), (row count 3 (omega arith) (λ e. omega arith) (λ e. omega arith), tt))),
+  no-source count 1 (λ e. omega arith) (λ e. omega arith) (λ e. omega arith),
+  (no-source count 17 (λ e. omega arith) (λ e. omega arith) (λ e. omega arith), (no-source count 18 (λ e. omega arith) (λ e. omega arith) (λ e. omega arith), (no-source count 3 (λ e. omega arith) (λ e. omega arith) (λ e. omega arith), tt))),
 )
 
 -- the sources, the first of them at place k
@@ -155,14 +155,14 @@ map-placed run periods weights phases map =
     let lists = sourceListsTable periods weights phases in
     let sources = sources-placed count 1 entries (omega arith) (omega (arith, entries-few periods weights phases)) in
     every-append (RightPlace count) (runTable run) (lists ++ room) (run-placed count run)
-    (every-append (RightPlace count) lists room (row count 10 (omega arith) (λ e. omega arith) (λ e. omega arith), sources) (row count 9 (omega arith) (λ e. omega arith) (λ e. omega arith), tt))
+    (every-append (RightPlace count) lists room (no-source count 10 (λ e. omega arith) (λ e. omega arith) (λ e. omega arith), sources) (no-source count 9 (λ e. omega arith) (λ e. omega arith) (λ e. omega arith), tt))
 
 text-placed : (content : Content) → Every (RightPlace (length (content .entries))) (textTable content)
 text-placed content =
     let count = length (content .entries) in
     let many = 12 given ((mostSources < count) ⊎ (mostCells < cellsOf (content .run))) ∷ sourcesTable 1 (content .entries) in
     every-append (RightPlace count) (runTable (content .run)) many (run-placed count (content .run))
-    (row count 12 (omega arith) (λ e. omega arith) (λ e. omega arith), sources-placed count 1 (content .entries) (omega arith) (omega arith))
+    (no-source count 12 (λ e. omega arith) (λ e. omega arith) (λ e. omega arith), sources-placed count 1 (content .entries) (omega arith) (omega arith))
 
 -- A refusal of the map call for 4, 7 or 22 has a place between 1 and the length of the list of periods, and no other refusal has one.
 module _ (run : Run) (periods weights phases map : List ℕ) (answer : Added) (after : List ℕ) (h : MapPromise run periods weights phases map answer after) where
@@ -171,7 +171,7 @@ module _ (run : Run) (periods weights phases map : List ℕ) (answer : Added) (a
 
 -- what the table of a text says
 pub says-placed : (text : List ℕ) (o : Option Content) → Reads text o → (n : ℕ) (place : Place) → SaysOfText text n place → RightPlace (srcCount o) n place
-says-placed text o r n place (inl s) = every-said (RightPlace (srcCount o)) (11 given Reads text none ∷ []) (row (srcCount o) 11 (omega arith) (λ e. omega arith) (λ e. omega arith), tt) n place s
+says-placed text o r n place (inl s) = every-said (RightPlace (srcCount o)) (11 given Reads text none ∷ []) (no-source (srcCount o) 11 (λ e. omega arith) (λ e. omega arith) (λ e. omega arith), tt) n place s
 says-placed text none r n place (inr s) = absurd (r (s .0) (s .1))
 says-placed text (some content) r n place (inr s) =
     every-said (RightPlace (length (content .entries))) (textTable content) (text-placed content) n place (rw (spells-unique (s .1) r) at (s .2))

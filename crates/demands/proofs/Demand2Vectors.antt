@@ -84,11 +84,6 @@ pair-is-basis p r I h = Proposition.pair-is-basis h
 pub second-half : (p r I : ℕ) {left right : Vector} → IsPair p r I left right → (v : Vector) → InLattice p r v → negℤ (pos I) <ℤ v .offset → v .offset <ℤ pos I → Sum left right v
 second-half p r I h = Proposition.second-half h
 
--- "the only hits in the window are at offset 0, on multiples of p/g", where the single vector is the reply: of a source at phase 0. (With a
--- phase: Phases.)
-pub only-zero : (p r I g : ℕ) → ValidQuestion p r I → IsGcd g r p → I ≤ g → (v : Vector) → negℤ (pos (I / 2)) ≤ℤ v .offset → v .offset <ℤ pos (I / 2) → InLattice p r v ↔ ((v .offset ≡ pos 0) × (p / g ∣ v .line))
-only-zero p r I g a is wide = Proposition.only-zero (omega arith) is wide
-
 whole-lattice : (run : Run) (source : Source) (i : ℤ) (j : ℕ) → Hits run source i j ↔ InLattice (source .period) (run .interval) (record { offset = i +ℤ pos (source .phase); line = j })
 unfolding Hits InLattice instant
 whole-lattice run source i j =

@@ -1,7 +1,7 @@
 -- Request E2: "Lines run from 0; a first line of 0 is accepted everywhere, in saved maps too. Demands 2 and 3 cover line 0 from here on."
 -- The theorems of demands 2 and 3 ask no more of a run than that it is within the limits, and of its first line these ask only that it is
 -- not after the last. Here is what that says of line 0. Assumes nothing.
-use Prim.Native.Nat.{ℕ, _-_, _*_, _/_, _%_, _≤_, _<_, _∣_}
+use Prim.Native.Nat.{_-_, _*_, _/_, _≤_, _<_, _∣_}
 use native.Mathlib.Nat.{dvd-zero, le-of-dvd}
 use native.Mathlib.Omega.{arith}
 use mathlib.Core.Path.{_≡_, ap}

@@ -1,5 +1,6 @@
 -- Document 01, "The list program", and request E5: "the text line becomes `src period weight phase`, and a line without it means phase 0".
--- Which texts are not refused 11, what they say, and which are accepted; then the whole report on what they say is printed. Assumes nothing.
+-- Which texts are not refused 11, what they say, and which are accepted; then the whole report on what they say is printed.
+-- Assumes nothing.
 use Prim.Native.Nat.{ℕ, suc, _<_}
 use native.Mathlib.Decide.{decLt}
 use native.Mathlib.Omega.{arith}

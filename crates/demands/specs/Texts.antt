@@ -9,7 +9,8 @@ use Rattle.sources.specs.Lists.{ValidEntries}
 use Rattle.text.specs.Form.{SrcLine, InForm, Content}
 use Rattle.report.specs.declared.Output.{Output}
 
--- "one line `run I T first last`, then `src` .. lines, none or more", each with a phase or without: the text has the form, whatever it says.
+-- "one line `run I T first last`, then `src` .. lines, none or more", each with a phase or without: the text has the form, whatever it
+-- says.
 abbrev pub HasForm : List ℕ → Type 0
 HasForm text = (run : Run) × (srcs : List SrcLine) × InForm text run srcs
 

@@ -3,5 +3,5 @@
 // the report.
 // All but the report are C functions too, and demand 1 is said of these as well.
 // specs/ has the few words that the demands add to document 01's; proofs/ has a file for each demand, or for each part of
-// one, one on the blanking list, one on texts and reports, two on all nine operations (no second reply fits, an outcome fits every
-// input), and what these share.
+// one, one on line 0, one on phases, one on the blanking list, one on texts and reports, two on all nine operations (no second reply
+// fits, an outcome fits every input), and what these share.

@@ -3,8 +3,8 @@ use mathlib.Core.Path.{_≡_, ap, subst}
 use mathlib.Core.Logic.{_↔_}
 use Prim.Native.Nat.{ℕ, _+_, _-_, _*_, _<_}
 use native.Mathlib.Omega.{arith}
-use Rattle.lattice.proofs.Congruence.{Cong, cong-refl, cong-sym, cong-trans, cong-mix}
-use Rattle.lattice.proofs.Differences.{Lft, Rgt, Go}
+use Rattle.lattice.proofs.Congruence.{Cong, cong-refl, cong-trans, cong-mix}
+use Rattle.lattice.proofs.Differences.{Go}
 use Rattle.lattice.proofs.Stage.{Side, left, right, other, Lies, ended}
 use Rattle.lattice.proofs.Gcd.{IsGcd, gcd-unique, last-gcd, go-cong}
 use Rattle.lattice.proofs.Pair.{reach}
@@ -19,7 +19,7 @@ turned left p r n b some l =
     (b * q, record { up = q * c .down; down = n + q * c .up; same = omega (arith, ap (λ x. q * x) (c .same), ap (λ x. n * x) whole) })
 
 -- so that g, the greatest common divisor, is r·y and whole periods
-pub gcd-turns : {g p r : ℕ} → r < p → IsGcd g r p → (y : ℕ) × Cong p g (r * y)
+gcd-turns : {g p r : ℕ} → r < p → IsGcd g r p → (y : ℕ) × Cong p g (r * y)
 gcd-turns {g} {p} {r} low is =
     let end = reach {W = 1} low (omega arith) (omega arith) in
     let below = end .below in

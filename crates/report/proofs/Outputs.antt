@@ -7,7 +7,7 @@ use mathlib.Core.List.{List, [], _∷_, _++_}
 use lib.ListN.{length, take, drop, length-take, length-append}
 use lib.Seq.{length-take-le}
 use borrow.Author.Tests.{ltb-false}
-use Rattle.rooms.specs.Lists.{zeros}
+use Rattle.rooms.specs.Lists.{zeros, padded}
 use Rattle.rooms.specs.Inner.{Written}
 use Rattle.rooms.proofs.Lists.{padded-within, padded-is}
 use Rattle.rooms.proofs.Written.{written-append}
@@ -23,7 +23,6 @@ use Rattle.sources.specs.Entry.{entriesOf}
 use Rattle.scope.specs.Reply.{refused, answered}
 use Rattle.scope.proofs.Judged.{Passes}
 use Rattle.scope.proofs.Limits.{passes-when, passes-first, passes-then, valid-run}
-use Rattle.sources.specs.Lists.{periodsOf, weightsOf, phasesOf}
 use Rattle.sources.proofs.Entries.{periods-length, weights-length, phases-length}
 use Rattle.words.specs.Line.{fields, line}
 use Rattle.text.specs.Form.{Content, Spells}
@@ -72,20 +71,17 @@ at-source-written n k word number place = written-append (written-append word nu
 
 module _ {text : List ℕ} {input : Input} (p : TextPromise text input) where
   -- the lists have room for as many sources as there are
+  within : (list numbers : List ℕ) → list ≡ padded mostSources numbers → length numbers ≡ length (handed (p .content)) → input .count ≤ length list
+  within list numbers is long = omega (arith, ap length is, padded-within mostSources numbers, long, p .counts)
+
   pub periods-within : input .count ≤ length (input .periods)
-  periods-within =
-      let es = handed (p .content) in
-      omega (arith, ap length (p .periods), padded-within mostSources (periodsOf es), periods-length es, p .counts)
+  periods-within = within _ _ (p .periods) (periods-length (handed (p .content)))
 
   pub weights-within : input .count ≤ length (input .weights)
-  weights-within =
-      let es = handed (p .content) in
-      omega (arith, ap length (p .weights), padded-within mostSources (weightsOf es), weights-length es, p .counts)
+  weights-within = within _ _ (p .weights) (weights-length (handed (p .content)))
 
   pub phases-within : input .count ≤ length (input .phases)
-  phases-within =
-      let es = handed (p .content) in
-      omega (arith, ap length (p .phases), padded-within mostSources (phasesOf es), phases-length es, p .counts)
+  phases-within = within _ _ (p .phases) (phases-length (handed (p .content)))
 
   module _ {run : Run} (e : input .answer ≡ Read run) where
     -- what the text says

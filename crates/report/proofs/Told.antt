@@ -5,36 +5,35 @@ use mathlib.Core.Path.{_≡_, refl, sym, ap, _∙_}
 use mathlib.Core.Bool.{Bool, true, false, cond}
 use mathlib.Core.List.{List, [], _∷_, _++_, append-assoc}
 use lib.Dec.{eqb}
-use lib.ListN.{length, getD}
+use lib.ListN.{getD}
 use Rattle.words.specs.Line.{line}
 use Rattle.words.proofs.Lines.{line-split}
 use Rattle.scope.specs.declared.Run.{Run}
 use Rattle.scope.specs.Run.{runWith, cellsOf}
-use Rattle.scope.specs.Hit.{hitsFrom}
 use Rattle.sources.specs.Entry.{Entry, entryWith}
 use Rattle.text.specs.Form.{runWord, srcWord, runNumbers}
 use Rattle.report.specs.Report.{mapWord, runReport, entryReport, srcReport, cellReport, mapReport, endReport, cellsReport, wholeReport}
 
 -- these bytes do not begin as a `src` line does
-abbrev NoSrc : List ℕ → Type 0
-NoSrc bytes = getD bytes 0 0 ≡ 115 → ⊥
+abbrev OtherWord : List ℕ → Type 0
+OtherWord bytes = getD bytes 0 0 ≡ 115 → ⊥
 
 -- so those of cells, which begin with `map` or with `end`
-no-src-map : (x : ℕ) (cells rest : List ℕ) → NoSrc rest → NoSrc (mapReport x cells ++ rest)
+other-word-map : (x : ℕ) (cells rest : List ℕ) → OtherWord rest → OtherWord (mapReport x cells ++ rest)
 unfolding mapReport cellReport line
-no-src-map x [] rest none e = none e
-no-src-map x (value ∷ cells) rest none e = go (eqb value 0) (no-src-map (suc x) cells rest none) e
+other-word-map x [] rest none e = none e
+other-word-map x (value ∷ cells) rest none e = go (eqb value 0) (other-word-map (suc x) cells rest none) e
   where
-    go : (b : Bool) → NoSrc (mapReport (suc x) cells ++ rest) → NoSrc ((cond b [] (line mapWord (x ∷ value ∷ [])) ++ mapReport (suc x) cells) ++ rest)
+    go : (b : Bool) → OtherWord (mapReport (suc x) cells ++ rest) → OtherWord ((cond b [] (line mapWord (x ∷ value ∷ [])) ++ mapReport (suc x) cells) ++ rest)
     go true later e = later e
     go false later e = omega arith
 
-no-src-end : (cells : List ℕ) → NoSrc (endReport cells)
+other-word-end : (cells : List ℕ) → OtherWord (endReport cells)
 unfolding endReport line
-no-src-end cells e = omega arith
+other-word-end cells e = omega arith
 
 -- the lines of sources, and what follows them
-sources-told : (run run′ : Run) (k : ℕ) (a b : List Entry) (r s : List ℕ) → NoSrc r → NoSrc s → srcReport run k a ++ r ≡ srcReport run′ k b ++ s → a ≡ b
+sources-told : (run run′ : Run) (k : ℕ) (a b : List Entry) (r s : List ℕ) → OtherWord r → OtherWord s → srcReport run k a ++ r ≡ srcReport run′ k b ++ s → a ≡ b
 unfolding srcReport entryReport line
 sources-told run run′ k [] [] r s m n e = refl
 sources-told run run′ k [] (f ∷ b) r s m n e = absurd (m (ap (λ l. getD l 0 0) e))
@@ -52,5 +51,5 @@ unfolding wholeReport runReport cellsReport
 whole-told run run′ a b e =
     let split = line-split runWord (runNumbers run ++ (cellsOf run ∷ [])) (runNumbers run′ ++ (cellsOf run′ ∷ [])) _ _ e in (
       ap (λ l. runWith (getD l 0 0) (getD l 1 0) (getD l 2 0) (getD l 3 0)) (split .0),
-      sources-told run run′ 1 a b _ _ (no-src-map 0 _ _ (no-src-end _)) (no-src-map 0 _ _ (no-src-end _)) (split .1),
+      sources-told run run′ 1 a b _ _ (other-word-map 0 _ _ (other-word-end _)) (other-word-map 0 _ _ (other-word-end _)) (split .1),
     )

@@ -88,7 +88,7 @@ same-test true b e = sym (e .0 refl)
 same-test false true e = e .1 refl
 same-test false false e = refl
 
--- on each line the remainder is hit; whole periods do not matter; after a hit the next is a period on or later
+-- whole periods do not matter; after a hit the next on its line is a period on or later
 pub on-period : (run : Run) (source : Source) (d j : ℕ) → On run source (d + source .period) j ↔ On run source d j
 unfolding On
 on-period run source d j =

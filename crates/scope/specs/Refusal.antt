@@ -1,5 +1,5 @@
--- Document 01, "The refusal numbers", and requests E1, E3 and E5: why a call is refused, and where; and the tests that runs and sources pass
--- in every call.
+-- Document 01, "The refusal numbers", and requests E1, E3 and E5: why a call is refused, and where; and the tests that runs and sources
+-- pass in every call.
 use Prim.Native.Nat.{ℕ, _%_}
 use mathlib.Core.Path.{_≡_}
 use mathlib.Core.Logic.{_⊎_}

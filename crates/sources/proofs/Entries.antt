@@ -2,8 +2,8 @@
 use Prim.Native.Nat.{ℕ, suc, _≤_, _<_}
 use mathlib.Core.Path.{_≡_, refl, sym, ap, _∙_}
 use mathlib.Core.Logic.{_↔_}
-use mathlib.Core.List.{List, [], _∷_, _++_}
-use lib.ListN.{length, drop}
+use mathlib.Core.List.{List, [], _∷_, _++_, map-append}
+use lib.ListN.{length, drop, length-map}
 use lib.Seq.{drop-cons}
 use native.Mathlib.Omega.{arith}
 use borrow.Author.Tests.{ltb-false, eqb-false, ne-eqb, le-ltb}
@@ -44,18 +44,15 @@ entries-of (e ∷ entries) = ap (λ es. e ∷ es) (entries-of entries)
 
 pub periods-length : (entries : List Entry) → length (periodsOf entries) ≡ length entries
 unfolding periodsOf
-periods-length [] = refl
-periods-length (e ∷ entries) = ap suc (periods-length entries)
+periods-length entries = length-map entries (λ e. e .source .period)
 
 pub weights-length : (entries : List Entry) → length (weightsOf entries) ≡ length entries
 unfolding weightsOf
-weights-length [] = refl
-weights-length (e ∷ entries) = ap suc (weights-length entries)
+weights-length entries = length-map entries (λ e. e .weight)
 
 pub phases-length : (entries : List Entry) → length (phasesOf entries) ≡ length entries
 unfolding phasesOf
-phases-length [] = refl
-phases-length (e ∷ entries) = ap suc (phases-length entries)
+phases-length entries = length-map entries (λ e. e .source .phase)
 
 -- so that they are of one length
 pub one-length : (entries : List Entry) → OneLength (periodsOf entries) (weightsOf entries) (phasesOf entries)
@@ -63,18 +60,15 @@ one-length entries = (periods-length entries ∙ sym (weights-length entries), p
 
 pub periods-append : (a b : List Entry) → periodsOf (a ++ b) ≡ periodsOf a ++ periodsOf b
 unfolding periodsOf
-periods-append [] b = refl
-periods-append (e ∷ a) b = ap (λ l. e .source .period ∷ l) (periods-append a b)
+periods-append a b = map-append (λ e. e .source .period) a b
 
 pub weights-append : (a b : List Entry) → weightsOf (a ++ b) ≡ weightsOf a ++ weightsOf b
 unfolding weightsOf
-weights-append [] b = refl
-weights-append (e ∷ a) b = ap (λ l. e .weight ∷ l) (weights-append a b)
+weights-append a b = map-append (λ e. e .weight) a b
 
 pub phases-append : (a b : List Entry) → phasesOf (a ++ b) ≡ phasesOf a ++ phasesOf b
 unfolding phasesOf
-phases-append [] b = refl
-phases-append (e ∷ a) b = ap (λ l. e .source .phase ∷ l) (phases-append a b)
+phases-append a b = map-append (λ e. e .source .phase) a b
 
 -- ---- their tests
 

@@ -1,7 +1,7 @@
 -- Document 01: "a list of periods, a list of weights", and request E5: "phases beside periods and weights", of list entries.
 use Prim.Native.Nat.{ℕ, _≤_}
 use mathlib.Core.Path.{_≡_}
-use mathlib.Core.List.{List, [], _∷_}
+use mathlib.Core.List.{List, [], _∷_, map}
 use lib.ListN.{length}
 use Rattle.scope.specs.Run.{ValidSource}
 use Rattle.sources.specs.Entry.{Entry}
@@ -12,18 +12,15 @@ OneLength periods weights phases = (length periods ≡ length weights) × (lengt
 
 -- The list of periods of some entries.
 unfoldable pub periodsOf : List Entry → List ℕ
-periodsOf [] = []
-periodsOf (entry ∷ entries) = entry .source .period ∷ periodsOf entries
+periodsOf entries = map (λ entry. entry .source .period) entries
 
 -- The list of weights of some entries.
 unfoldable pub weightsOf : List Entry → List ℕ
-weightsOf [] = []
-weightsOf (entry ∷ entries) = entry .weight ∷ weightsOf entries
+weightsOf entries = map (λ entry. entry .weight) entries
 
 -- The list of phases of some entries.
 unfoldable pub phasesOf : List Entry → List ℕ
-phasesOf [] = []
-phasesOf (entry ∷ entries) = entry .source .phase ∷ phasesOf entries
+phasesOf entries = map (λ entry. entry .source .phase) entries
 
 -- The table of ranges, of one entry: those of its source, and "weight: 1 to 255", of any ceiling c.
 pub record ValidEntry (c : ℕ) (e : Entry) : Type 0 where

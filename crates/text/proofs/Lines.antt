@@ -29,11 +29,11 @@ four [] h = absurd (omega arith)
 four (a ∷ []) h = absurd (omega arith)
 
 module _ {text : List ℕ} {at : ℕ} {room : List ℕ} {next : ℕ} where
-  pub line-short : Line text at srcWord room next → length room ≡ 2 → SrcStands text at (withoutPhase (getD room 0 0) (getD room 1 0)) next
-  line-short l h = record { stands = subst (λ ns. Line text at srcWord ns next) (two room h) l }
+  pub line-unphased : Line text at srcWord room next → length room ≡ 2 → SrcStands text at (withoutPhase (getD room 0 0) (getD room 1 0)) next
+  line-unphased l h = record { stands = subst (λ ns. Line text at srcWord ns next) (two room h) l }
 
-  pub line-long : Line text at srcWord room next → length room ≡ 3 → SrcStands text at (withPhase (getD room 0 0) (getD room 1 0) (getD room 2 0)) next
-  line-long l h = record { stands = subst (λ ns. Line text at srcWord ns next) (three room h) l }
+  pub line-phased : Line text at srcWord room next → length room ≡ 3 → SrcStands text at (withPhase (getD room 0 0) (getD room 1 0) (getD room 2 0)) next
+  line-phased l h = record { stands = subst (λ ns. Line text at srcWord ns next) (three room h) l }
 
   pub line-run : {word : List ℕ} {run : Run} → Line text at word room next → length room ≡ 4 → run ≡ runOf room → Line text at word (runNumbers run) next
   line-run {word} l h e = rw e (subst (λ ns. Line text at word ns next) (four room h) l)
@@ -42,7 +42,7 @@ module _ {text : List ℕ} {at : ℕ} {room : List ℕ} {next : ℕ} where
 
 -- with a phase they are its numbers
 pub long-numbers : {text : List ℕ} {at : ℕ} {room : List ℕ} {next : ℕ} → Line text at srcWord room next → length room ≡ 3 → NumbersAt text at room (Next next)
-long-numbers {room = room} l h = (_, line-long l h, three room h)
+long-numbers {room = room} l h = (_, line-phased l h, three room h)
 
 -- without one they are its two numbers, put before a 0
 zero-behind : (before part : List ℕ) → length before ≡ 3 → length part ≡ 2 → putMid 0 (2 - 0) (set before 2 0) part ≡ getD part 0 0 ∷ getD part 1 0 ∷ 0 ∷ []
@@ -60,5 +60,5 @@ pub numbers-length : (before part : List ℕ) → length before ≡ 3 → length
 numbers-length before part h k = ap length (zero-behind before part h k)
 
 pub short-numbers : (text : List ℕ) (at : ℕ) (before part : List ℕ) (long short : ℕ) (found : Found) → length before ≡ 3 → length part ≡ 2 → long ≡ 3 → short ≡ 2 → NoLine text at srcWord long → LineAt text at srcWord short part Text found → NumbersAt text at (putMid 0 (2 - 0) (set before 2 0) part) found
-short-numbers text at before part long short (Next next) h k e f n l = (_, line-short l k, zero-behind before part h k)
+short-numbers text at before part long short (Next next) h k e f n l = (_, line-unphased l k, zero-behind before part h k)
 short-numbers text at before part long short (Refused reason) h k e f n l = (l .0, record { long = subst (NoLine text at srcWord) e n; short = subst (NoLine text at srcWord) f (l .1) })

@@ -1,6 +1,6 @@
 -- The `src` lines of a text, one after the other: what is passed joins what follows, and leaves a text only one way to go on.
 -- Each law adds one line behind those passed. Assumes nothing.
-use Prim.Native.Nat.{ℕ, suc, _+_, _≤_, _<_}
+use Prim.Native.Nat.{ℕ, _+_, _≤_, _<_}
 use native.Mathlib.Omega.{arith}
 use mathlib.Core.Path.{_≡_, refl, sym, ap, _∙_}
 use mathlib.Core.List.{List, [], _∷_, _++_, append-assoc, append-nil}

@@ -11,7 +11,7 @@ use Rattle.words.proofs.Standing.{line-found}
 use Rattle.text.specs.Form.{runWord, srcWord, SrcLine, sourcesMeant, Content}
 use Rattle.text.specs.Promise.{Reads}
 use Rattle.text.specs.Inner.{SrcStands, NoSrc, Lines, NoLines, runOf}
-use Rattle.text.proofs.Lines.{line-short, line-long, line-run}
+use Rattle.text.proofs.Lines.{line-unphased, line-phased, line-run}
 use Rattle.text.proofs.Listing.{lines-end, line-joins, line-refutes, line-ends, no-line}
 use Rattle.text.proofs.Answers.{too-long, no-run, no-sources, has-form}
 
@@ -20,10 +20,10 @@ module _ (text : List ℕ) where
   src-found : (at : ℕ) → ((src : SrcLine) × (next : ℕ) × SrcStands text at src next) ⊎ NoSrc text at
   src-found at =
       elim (line-found text at srcWord 3) [
-        | inl f ↦ inl (_, _, line-long (f .stands) (f .counted))
+        | inl f ↦ inl (_, _, line-phased (f .stands) (f .counted))
         | inr long ↦
             elim (line-found text at srcWord 2) [
-              | inl f ↦ inl (_, _, line-short (f .stands) (f .counted))
+              | inl f ↦ inl (_, _, line-unphased (f .stands) (f .counted))
               | inr short ↦ inr (record { long = long; short = short })
             ]
       ]

@@ -107,13 +107,9 @@ text-exists text =
 pub sources-handed : (text : List ℕ) (input : Input) (p : TextPromise text input) → sourcesOf input ≡ handed (p .content)
 sources-handed text input p =
     let es = handed (p .content) in
-    let front : take (input .count) (input .periods) ≡ periodsOf es =
-    ap (take (input .count)) (p .periods) ∙ padded-front mostSources (input .count) (periodsOf es) (periods-length es ∙ sym (p .counts)) in
-    let beside : take (input .count) (input .weights) ≡ weightsOf es =
-    ap (take (input .count)) (p .weights) ∙ padded-front mostSources (input .count) (weightsOf es) (weights-length es ∙ sym (p .counts)) in
-    let behind : take (input .count) (input .phases) ≡ phasesOf es =
-    ap (take (input .count)) (p .phases) ∙ padded-front mostSources (input .count) (phasesOf es) (phases-length es ∙ sym (p .counts)) in
-    rw (front, beside, behind) (entries-of es)
+    let front : (list numbers : List ℕ) → list ≡ padded mostSources numbers → length numbers ≡ length es → take (input .count) list ≡ numbers =
+    λ list numbers is long. ap (take (input .count)) is ∙ padded-front mostSources (input .count) numbers (long ∙ sym (p .counts)) in
+    rw (front _ _ (p .periods) (periods-length es), front _ _ (p .weights) (weights-length es), front _ _ (p .phases) (phases-length es)) (entries-of es)
 
 pub accepted : (text : List ℕ) (input : Input) → TextPromise text input → (d : Content)
     → ((input .answer ≡ Read (d .run)) × (sourcesOf input ≡ d .entries)) ↔ (Spells text d × Passes (textTests d))

@@ -12,6 +12,7 @@ ghost use Rattle.scope.specs.Refusal.{_when_, complaint};
 ghost use Rattle.scope.specs.declared.Reason.the-variants.{TooMany};
 ghost use Rattle.scope.specs.Inner.{verdict};
 ghost use Rattle.text.specs.Promise.{mostSources, refusal, TextPromise};
+ghost use Rattle.text.specs.declared.Answer.the-variants.{Read};
 ghost use Rattle.text.specs.Inner.{NumbersAt, SourceAt, SourcesAt, LinesAt, runOf};
 
 // A text has at most so many bytes,
@@ -157,6 +158,25 @@ fn refuse(reason: Reason, place: Place) -> Input
     }
 }
 
+// The reply with a run and its sources.
+fn accept(
+    run: Run,
+    count: usize,
+    periods: [u32; SOURCES],
+    weights: [u32; SOURCES],
+    phases: [u32; SOURCES],
+) -> Input
+    ensures { λ r. ⌜ r ≡ record { answer = Read run; count = count; periods = periods; weights = weights; phases = phases } ⌝ }
+{
+    Input {
+        answer: Answer::Read(run),
+        count,
+        periods,
+        weights,
+        phases,
+    }
+}
+
 // Public operation. The run and the sources that a text has, or the refusal.
 // All lines are read before the first number is judged: what is not of the form comes before what is not within the limits.
 // Refused, in this order: 11 for the form, 1, 17, 18, 3 for the run, 12 for too many sources or cells, 4, 7 or 22 for the first
@@ -195,11 +215,5 @@ pub fn read_text(text: &[u8]) -> Input
     ) {
         return refuse(reason, place);
     }
-    Input {
-        answer: Answer::Read(run),
-        count,
-        periods,
-        weights,
-        phases,
-    }
+    accept(run, count, periods, weights, phases)
 }

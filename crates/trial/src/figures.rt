@@ -10,6 +10,7 @@ use crate::texts;
 use scope::Run;
 use scope::Source;
 use trying::reference::Refusal;
+use trying::reference::at_place;
 use trying::reference::plain;
 use trying::refusals;
 use trying::tally;
@@ -152,13 +153,10 @@ pub fn try_limits(ledger: &mut [u64]) {
     );
 }
 
-// A text whose second and third source are at fault, the second in both numbers: read and reported.
+// A text whose second and third source are at fault, the second in its period and its weight: read and reported.
 fn try_text(ledger: &mut [u64]) {
     let text = b"run 4 10 1 5\nsrc 7 60\nsrc 0 0\nsrc 9 0\n";
-    let refusal = Refusal {
-        number: 4,
-        place: 2,
-    };
+    let refusal = at_place(4, 2);
     tally::count(ledger, tally::TEXT_SOURCE, texts::refused(text, refusal));
     tally::count(
         ledger,
@@ -171,14 +169,8 @@ fn try_text(ledger: &mut [u64]) {
 // a phase.
 pub fn try_places(ledger: &mut [u64]) {
     let run = run_of(10, 1, 5);
-    let heavy = Refusal {
-        number: 7,
-        place: 2,
-    };
-    let late = Refusal {
-        number: 22,
-        place: 2,
-    };
+    let heavy = at_place(7, 2);
+    let late = at_place(22, 2);
     let weight = mapping::refused(heavy, run, [7, 3], [60, 256], [6, 3], 19);
     let phase = mapping::refused(late, run, [7, 3], [60, 255], [6, 3], 19);
     try_text(ledger);
@@ -224,18 +216,9 @@ fn try_refused(ledger: &mut [u64], text: &[u8], refusal: Refusal, printed: &[u8]
 
 // Sources at fault in a text: 7 comes before 22, and 4 before both. A fifth word is 11.
 fn try_phase_faults(ledger: &mut [u64]) {
-    let period = Refusal {
-        number: 4,
-        place: 1,
-    };
-    let weight = Refusal {
-        number: 7,
-        place: 1,
-    };
-    let phase = Refusal {
-        number: 22,
-        place: 1,
-    };
+    let period = at_place(4, 1);
+    let weight = at_place(7, 1);
+    let phase = at_place(22, 1);
     try_refused(
         ledger,
         b"run 4 10 0 5\nsrc 0 1 0\n",

@@ -1,7 +1,7 @@
-// The test program: 01's bench figures without a star, examples from line 0 and with phases, refusals with two faults at a time, and random small
-// runs, with a fault here and there and two at once, through every operation, against a walk over all cells, 01's layout of a file and
-// the table of refusals. Each line that it prints says how many cases of a kind were tried, and how many of them were bad. Every
-// function is proved safe and ending; that none is bad is what the stored output holds the program to.
+// The test program: 01's bench figures without a star, examples from line 0 and with phases, refusals with two faults at a time, and
+// random small runs, with a fault here and there and two at once, through every operation, against a walk over all cells, 01's layout of
+// a file and the table of refusals. Each line that it prints says how many cases of a kind were tried, and how many of them were bad.
+// Every function is proved safe and ending; that none is bad is what the stored output holds the program to.
 mod figures;
 mod files;
 mod listing;
@@ -83,8 +83,8 @@ fn try_all(ledger: &mut [u64]) {
     }
 }
 
-// Tries the bench figures, examples from line 0 and with phases, the last cell there is, refusals with two faults at a time, and texts at the length
-// limit.
+// Tries the bench figures, examples from line 0 and with phases, the last cell there is, refusals with two faults at a time, and texts
+// at the length limit.
 fn try_figures(ledger: &mut [u64]) {
     tally::count(ledger, tally::WIDE, figures::wide_is_refused());
     figures::try_last(ledger);

@@ -162,6 +162,11 @@ pub fn plain(number: u8) -> Refusal {
     Refusal { number, place: 0 }
 }
 
+// A refusal that concerns the source at a place of a list, counted from 1.
+pub fn at_place(number: u8, place: u64) -> Refusal {
+    Refusal { number, place }
+}
+
 // The refusal with a number, if what it is given for is so; else none.
 pub fn when(wrong: bool, number: u8) -> Refusal {
     if wrong { plain(number) } else { plain(0) }
@@ -232,10 +237,7 @@ pub fn judge_sources(periods: &[u32], weights: &[u32], phases: &[u32]) -> Refusa
     while k < all {
         let said = judge_at(periods, weights, phases, k);
         if said.number != 0 {
-            return Refusal {
-                number: said.number,
-                place: k as u64 + 1,
-            };
+            return at_place(said.number, k as u64 + 1);
         }
         k += 1;
     }

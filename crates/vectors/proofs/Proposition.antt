@@ -1,19 +1,16 @@
 -- 002's first proposition over the integers, as it is worded there: the pair is a basis of the lattice, and its second half.
 -- Where there is no pair, the window's hits. Assumes nothing.
-use Prim.Native.Nat.{ℕ, _+_, _*_, _/_, _≤_, _<_, _∣_}
-use mathlib.Core.Path.{_≡_, sym, ap, subst, subst₂}
+use Prim.Native.Nat.{ℕ, _+_, _*_, _<_, _∣_}
+use mathlib.Core.Path.{_≡_, sym, ap, subst₂}
 use mathlib.Core.Logic.{_↔_}
-use native.Mathlib.Nat.{mul-div-cancel'}
 use native.Mathlib.Omega.{arith}
-use lib.IntN.{ℤ, pos, negℤ, natAbs, _+ℤ_, _-ℤ_, _*ℤ_, +ℤ-idl}
-use lib.Signed.{_≤ℤ_, _<ℤ_}
+use lib.IntN.{ℤ, pos, negℤ, natAbs, _+ℤ_, _-ℤ_, _*ℤ_}
+use lib.Signed.{_<ℤ_}
 use Rattle.signed.proofs.Parts.{parts, up, dn, sum, product, neg-up, neg-dn, apart}
 use Rattle.signed.proofs.Difference.{Is, of, int, diff, diff-parts, differences}
 use Rattle.signed.proofs.Divides.{divides-apart}
-use Rattle.lattice.specs.Gcd.{IsGcd}
 use Rattle.lattice.proofs.Congruence.{Cong, cong-iff-mod}
 use Rattle.lattice.proofs.Differences.{Go}
-use Rattle.lattice.proofs.Next.{single-distance, period}
 use Rattle.lattice.proofs.Pair.{extent}
 use Rattle.lattice.proofs.Span.{combined}
 use Rattle.lattice.proofs.Unique.{pair-steps}
@@ -81,31 +78,3 @@ pair-is-basis {p} {r} {I} {left} {right} h i j lies =
       offset = whole-distance (s .k) (s .k′) (s .l) (s .l′) (m .A) (m .C) (int i) (s .distance);
       line = whole-line (s .k) (s .k′) (s .l) (s .l′) (left .line) (right .line) (int j) (s .lines);
     })
-
--- "the only hits in the window are at offset 0, on multiples of p/g": of the lattice itself, which is a source at phase 0
-pub only-zero : {p r I g : ℕ} → 0 < p → IsGcd g r p → I ≤ g → (v : Vector) → negℤ (pos (I / 2)) ≤ℤ v .offset → v .offset <ℤ pos (I / 2) → InLattice p r v ↔ ((v .offset ≡ pos 0) × (p / g ∣ v .line))
-only-zero {p} {r} {I} {g} some is wide v low high = (to, from)
-  where
-    at : v .offset +ℤ pos (I / 2) ≡ pos (up (v .offset +ℤ pos (I / 2)))
-    at = omega (arith, parts, sum (v .offset) (pos (I / 2)), apart (v .offset +ℤ pos (I / 2)), neg-up (pos (I / 2)), neg-dn (pos (I / 2)))
-
-    -- the middle of the window, and where v leads from there, lie in the window
-    middle : I / 2 < I
-    middle = omega (arith, parts, neg-up (pos (I / 2)), neg-dn (pos (I / 2)))
-
-    within : up (v .offset +ℤ pos (I / 2)) < I
-    within = omega (arith, parts, at, sum (v .offset) (pos (I / 2)))
-
-    lines : Go p r (I / 2) (v .line) (I / 2) ↔ (p / g ∣ v .line)
-    lines = period (p / g) (I / 2) (v .line) some is (mul-div-cancel' g (is .divides-right))
-
-    to : InLattice p r v → (v .offset ≡ pos 0) × (p / g ∣ v .line)
-    to lies =
-        let way = lies-go p r v (I / 2) (up (v .offset +ℤ pos (I / 2))) at .0 lies in
-        let stays : up (v .offset +ℤ pos (I / 2)) ≡ I / 2 = single-distance is wide middle within way in
-        (omega (arith, parts, at, sum (v .offset) (pos (I / 2))), lines .0 (subst (λ x. Go p r (I / 2) (v .line) x) stays way))
-
-    from : (v .offset ≡ pos 0) × (p / g ∣ v .line) → InLattice p r v
-    from h =
-        let z = h .0 in
-        lies-go p r v (I / 2) (I / 2) (rw z (+ℤ-idl (pos (I / 2)))) .1 (lines .1 (h .1))

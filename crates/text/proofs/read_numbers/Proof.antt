@@ -1,4 +1,5 @@
--- `text::read_numbers` meets its contract: a line with three numbers is a `src` line with a phase, one with two a line without. Assumes nothing.
+-- `text::read_numbers` meets its contract: a line with three numbers is a `src` line with a phase, one with two a line without.
+-- Assumes nothing.
 use Prim.Native.Nat.{ℕ, _-_}
 use mathlib.Core.Path.{_≡_, sym, subst, _∙_}
 use mathlib.Core.List.{List}

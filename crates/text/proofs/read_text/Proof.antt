@@ -17,7 +17,7 @@ use Rattle.scope.proofs.Limits.{passes-when, passes-first, passes-then, valid-r
 use Rattle.sources.specs.Entry.{entriesOf, listTests}
 use Rattle.scope.proofs.Verdicts.{verdict-then}
 use Rattle.text.specs.Form.{runWord, runNumbers, sourcesMeant, Content, Spells}
-use Rattle.text.specs.Promise.{mostSources, mostCells, textTests}
+use Rattle.text.specs.Promise.{mostSources, mostCells, textTests, TextPromise}
 use Rattle.words.specs.Inner.{Line}
 use Rattle.text.specs.Inner.{AllLines, LinesAt}
 use Rattle.text.proofs.Lines.{line-run}
@@ -201,15 +201,20 @@ returns-4 c =
 enum-told-3 : tie.Need-enum-told-3
 enum-told-3 c = search needs
 
+accept-requires : tie.Need-accept-requires
+accept-requires c κs = search needs
+
 returns-5 : tie.Need-returns-5
 unfolding textTests
 returns-5 c =
-    let entries = c .before .before in
+    let told = c .before in
+    let entries = told .before .before in
     let cells = entries .before .before .before .before in
     let run = cells .before .before .before .before .before .before .before in
-    accepts (lines-read (run .before) .lists) (few (cells .before .before)) (formed run)
+    subst (TextPromise _) (sym (c .accept .ensures))
+    (accepts (lines-read (run .before) .lists) (few (cells .before .before)) (formed run)
     (both (cells-passes cells)
-    (subst (λ es. Passes (listTests ceiling 1 es)) (entries-judged cells) (fine (entries .judge-entries .ensures) (c .enum-told3 .given .1))))
+    (subst (λ es. Passes (listTests ceiling 1 es)) (entries-judged cells) (fine (entries .judge-entries .ensures) (told .enum-told3 .given .1)))))
 
 pub read-text-spec : {M : Type 1} → statement M
 read-text-spec =
@@ -246,4 +251,5 @@ read-text-spec =
     refuse-requires-4
     returns-4
     enum-told-3
+    accept-requires
     returns-5)

@@ -6,7 +6,7 @@ use mathlib.Core.Option.{none}
 use borrow.Author.Needs.{needs}
 use borrow.Author.Tests.{le-leb, lt-leb, lt-ltb, le-ltb}
 use native.Mathlib.Omega.{arith}
-use Rattle.scope.specs.Refusal.{number, Tests, _andThen_, complaint, windowTests, periodTests, sourceTests}
+use Rattle.scope.specs.Refusal.{number, Tests, _andThen_, complaint, windowTests, periodTests}
 use Rattle.scope.specs.declared.Reason.{Reason}
 use Rattle.scope.specs.declared.Place.{Place}
 use Rattle.scope.specs.Reply.{refused, answered}

@@ -262,7 +262,7 @@ fn map_and_file_from_line_0() {
     });
 }
 
-/// The example of request E5: the same run with a phase; a line without one means phase 0.
+/// An example of request E5: the same run with a phase; a line without one means phase 0.
 #[test]
 fn map_and_file_of_phases() {
     trials("a map and a file of phases", 1, |_| {
