@@ -121,9 +121,9 @@ module _ (run : Run) (source : Source) (v : ValidRun run) (w : ValidSource sourc
         let moved : Cong g (sought + s) (h + g) = cong-mix 1 1 0 (cong-mod g (h + (g - s % g))) (cong-sym (cong-mod g s)) (omega arith) (omega (arith, whole)) in
         cong-sym (cong-trans moved (record { up = 0; down = 1; same = omega arith }))
 
-    -- an offset that g divides when it is moved by the phase is at that distance
-    sought-only : (i : ℤ) → InWindow run i → g ∣ natAbs (i +ℤ pos (source .phase)) → sought < run .window
-    sought-only i inside k =
+    -- if g divides an offset of the window that is moved by the phase, that distance lies in the window
+    sought-inside : (i : ℤ) → InWindow run i → g ∣ natAbs (i +ℤ pos (source .phase)) → sought < run .window
+    sought-inside i inside k =
         let f = far v source inside in
         let near = f .below in
         let same = cong-cancel (source .phase) (cong-trans (cong-sym (divides-distance i (f .is) .0 k)) sought-is) in
@@ -148,5 +148,5 @@ module _ (run : Run) (source : Source) (v : ValidRun run) (w : ValidSource sourc
             let hit = hit-somewhere i inside .1 divides in
             inl (i, record { inside = inside; divides = divides; line = hit .0; hits = λ i′ j w. single-hits i i′ (hit .0) j inside w (hit .1) })
         go (inr l) =
-            let none : (i : ℤ) → InWindow run i → g ∣ natAbs (i +ℤ pos (source .phase)) → ⊥ = λ i inside k. omega (arith, sought-only i inside k) in
+            let none : (i : ℤ) → InWindow run i → g ∣ natAbs (i +ℤ pos (source .phase)) → ⊥ = λ i inside k. omega (arith, sought-inside i inside k) in
             inr (record { divides = none; none = λ i j inside hit. none i inside (hit-somewhere i inside .0 (j, hit)) })

@@ -1,5 +1,5 @@
--- What the inner steps of reading answer, from `at` on in the text: where that ends which stands there, or the refusal where nothing of the kind does.
--- A refusal carries its reason from where it arises, and each step hands it on.
+-- What the inner steps of reading answer, from `at` on in the text: where that ends which stands there, or the refusal where nothing of
+-- the kind does. A refusal carries its reason from where it arises, and each step hands it on.
 use Prim.Native.Nat.{ℕ, _≤_}
 use mathlib.Core.Path.{_≡_}
 use mathlib.Core.List.{List, [], _∷_}

@@ -75,8 +75,8 @@ fn read_source(
     Found::Next(next)
 }
 
-// Where the `src` lines from `at` on end, if the text ends with them: all are read and counted, and as many are stored as there is room for.
-// No `run` line need stand before them.
+// Where the `src` lines from `at` on end, if the text ends with them: all are read and counted, and as many are stored as there is
+// room for. No `run` line need stand before them.
 fn read_sources(
     text: &[u8],
     at: usize,

@@ -178,7 +178,7 @@ pub fn try_places(ledger: &mut [u64]) {
     tally::count(ledger, tally::MAP_SOURCE, phase);
 }
 
-// Reports on sources with a phase: one that hits and one without, and the largest phase there is.
+// Reports on sources with a phase: one beside a source without, and one with the largest phase there is.
 fn try_phased(ledger: &mut [u64]) {
     let line = tally::PHASE_EXAMPLES;
     let text = b"run 4 10 0 5\nsrc 7 60 2\nsrc 3 200\n";

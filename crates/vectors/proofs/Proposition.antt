@@ -1,5 +1,5 @@
 -- 002's first proposition over the integers, as it is worded there: the pair is a basis of the lattice, and its second half.
--- Where there is no pair, the window's hits. Assumes nothing.
+-- Assumes nothing.
 use Prim.Native.Nat.{ℕ, _+_, _*_, _<_, _∣_}
 use mathlib.Core.Path.{_≡_, sym, ap, subst₂}
 use mathlib.Core.Logic.{_↔_}
