@@ -4,8 +4,8 @@
 //
 // In a repetition every contender makes the same call, in an order that turns from one repetition to the next, and the interval
 // is another one in every call. What is printed is the median over the repetitions; a ratio is taken within a repetition.
-// Before each call the buffers that it writes are cleared, outside the measured time. All contenders must leave the same
-// bytes: each call's are summed up, and a difference ends the run.
+// Before each call the buffers that it writes are cleared, or the map filled with 255 that a plain map call has to clear, outside
+// the measured time. All contenders must leave the same bytes: each call's are summed up, and a difference ends the run.
 #include "bench.h"
 #include "ours.h"
 #include <stdio.h>
@@ -86,22 +86,28 @@ static uint64_t count_hits(void) {
     return hits;
 }
 
+// Whether the rows being measured are of the plain call, which makes a clean map, or of the adding one.
+static int clean;
+
+// A peer of the plain call clears the map and then adds; the limit there is the clearing.
 static void add(int who) {
     uint64_t all = cells_of(r);
     if (who == OURS) {
-        added_reply a = zenithgong_add_to_map(r.window, r.interval, r.first, r.last, periods, sources, weights, sources, phases, sources,
-                                              map, all);
-        if (a.refusal) exit(3);
+        mapping *call = clean ? zenithgong_make_map : zenithgong_add_to_map;
+        mapped_reply m = call(r.window, r.interval, r.first, r.last, periods, sources, weights, sources, phases, sources, map, all);
+        if (m.refusal) exit(3);
+    } else if (clean) {
+        memset(map, 0, all);
     }
     if (who == NAIVE) gcc_naive(r, periods, weights, phases, sources, map);
     if (who == GCC) gcc_walk(r, periods, weights, phases, sources, map);
     if (who == CLANG) clang_walk(r, periods, weights, phases, sources, map);
     if (who == RUST) rust_walk(r, periods, weights, phases, sources, map);
-    if (who == LIMIT) memset(map, r.interval, all);
+    if (who == LIMIT && !clean) memset(map, r.interval, all);
 }
 
 static double call_map(int who) {
-    memset(map, 0, cells_of(r));
+    memset(map, clean ? 255 : 0, cells_of(r));
     double began = seconds();
     add(who);
     double took = seconds() - began;
@@ -339,17 +345,18 @@ static void take_run(uint32_t window, uint64_t mib, uint32_t first) {
     r = (run){window, 1, first, first + (uint32_t)((mib << 20) / window) - 1};
 }
 
-// The map from line 1, from line 0, and from line 1 with phases.
+// The adding call from line 1, from line 0, and from line 1 with phases; the plain call from line 1.
 static void measure_maps(void) {
     static const struct {
         const char *name;
         uint32_t first;
-        int phased;
-    } kinds[] = {{"map", 1, 0}, {"map0", 0, 0}, {"map", 1, 1}};
+        int phased, clean;
+    } kinds[] = {{"map", 1, 0, 0}, {"map0", 0, 0, 0}, {"map", 1, 1, 0}, {"plain", 1, 0, 1}};
     char row[64];
-    for (int k = 0; k < 3 * 3 * 2 * 3; k++) {
+    for (int k = 0; k < 4 * 3 * 2 * 3; k++) {
         int kind = k / 18, s = k / 6 % 3, size = k / 3 % 2, w = k % 3, phased = kinds[kind].phased;
         choose(&SETS[s], phased);
+        clean = kinds[kind].clean;
         take_run(WINDOWS[w], SIZES[size], kinds[kind].first);
         snprintf(row, sizeof row, "%s%s %s %u %d", kinds[kind].name, PHASED[phased], SETS[s].name, WINDOWS[w], SIZES[size]);
         measure(row, "hit", call_map, "++++++");
@@ -417,7 +424,7 @@ static void measure_all(void) {
     measure_blanking();
 }
 
-// One call of one contender, for a tool that counts instructions, and its hits. With no contender, what is not the call's.
+// One adding call of one contender, for a tool that counts instructions, and its hits. With no contender, what is not the call's.
 static void count(const char *name, uint32_t window, uint64_t mib, int who) {
     for (int s = 0; s < 3; s++)
         if (!strcmp(SETS[s].name, name)) choose(&SETS[s], 0);

@@ -1,24 +1,27 @@
 # The rows of main.c as a table, and what is aimed at (docs/DECISIONS.md says why).
 BEGIN {
     FS = "\t"
-    what["map"] = "map"; what["map0"] = "map from line 0"; what["map-phased"] = "map with phases"; what["vectors"] = "vectors"
+    what["map"] = "map"; what["map0"] = "map from line 0"; what["map-phased"] = "map with phases"
+    what["plain"] = "plain map"; what["vectors"] = "vectors"
     what["first"] = "first hit"; what["first-phased"] = "first hit with phases"
     what["list"] = "listing"; what["list-phased"] = "listing with phases"
     what["save"] = "save"; what["read"] = "read"; what["blank"] = "blanking list"; what["count"] = "map, instructions"
     print "Every figure but ours is a time divided by ours: above 1, ours is faster. *Naive* takes a remainder on each line, *C*, *clang* and"
     print "*Rust* go the same walk without blocks, *limit* is a `memset` of the map (`memcpy` of the cells for save and read). The time is the"
-    print "processor time of the thread. The interval changes with every call; what a call writes is cleared before it, outside the time; all"
-    print "contenders must leave the same bytes. Medians of 5 to 41 repetitions, the ratios taken within a repetition. Periods by a fixed seed:"
-    print "30 of 3 to 2,000 (mix), 1,000 of 4,096 to 2^20, 1,000 of 4,096 to 2^31. The peers judge nothing that they are given but the blocks of"
-    print "a file and the room of a blanking list; ours judges all of it, within the time. The rows *map, instructions* are counts by callgrind,"
-    print "with the set-up, and their ratios are ratios of counts. Runs begin at line 1, where few sources with a long period have a hit; in"
-    print "the rows *map from line 0* every source has one on the first line, so that its vectors are always worked out. All phases are 0 but"
-    print "in the rows *with phases*, where they are any below the periods, by the same seed. In the rows *save* and *read* the column of the"
-    print "periods says how *C* and *clang* work out a block's check, by its weighted sum or in two columns; ours always has the columns, as"
-    print "request E4 wants them. In the rows *blanking list* the column of the periods says how many lines reach the threshold (one of 50 by"
-    print "any cell, or 15 of 16 by one of the guard's first eight) and how much of the window is guarded; *C*, *clang* and *Rust* go over the"
-    print "lines twice as ours does, to count the stretches and to write them, and the *limit* is one pass over the guard cells that have to be"
-    print "looked at, for the largest of each line."
+    print "processor time of the thread. The interval changes with every call; what a call writes is cleared before it, outside the time, but"
+    print "in the rows *plain map*; all contenders must leave the same bytes. Medians of 5 to 41 repetitions, the ratios taken within a"
+    print "repetition. Periods by a fixed seed: 30 of 3 to 2,000 (mix), 1,000 of 4,096 to 2^20, 1,000 of 4,096 to 2^31. The peers judge nothing"
+    print "that they are given but the blocks of a file and the room of a blanking list; ours judges all of it, within the time. The rows *map*,"
+    print "*map from line 0*, *map with phases* and *map, instructions* are of the adding call, on a lent map. In the rows *plain map* each call"
+    print "finds the map full of 255 and clears it within its time, *naive*, *C*, *clang* and *Rust* by a `memset` before they add; the *limit*"
+    print "is that `memset` alone. The rows *map, instructions* are counts by callgrind, with the set-up, and their ratios are ratios of"
+    print "counts. Runs begin at line 1, where few sources with a long period have a hit; in the rows *map from line 0* every source has one"
+    print "on the first line, so that its vectors are always worked out. All phases are 0 but in the rows *with phases*, where they are any"
+    print "below the periods, by the same seed. In the rows *save* and *read* the column of the periods says how *C* and *clang* work out a"
+    print "block's check, by its weighted sum or in two columns; ours always has the columns, as request E4 wants them. In the rows *blanking"
+    print "list* the column of the periods says how many lines reach the threshold (one of 50 by any cell, or 15 of 16 by one of the guard's"
+    print "first eight) and how much of the window is guarded; *C*, *clang* and *Rust* go over the lines twice as ours does, to count the"
+    print "stretches and to write them, and the *limit* is one pass over the guard cells that have to be looked at, for the largest of each line."
     print ""
     print "| what | periods | window | MiB | ours | naive | C, gcc -O2 | C, clang -O3 | Rust | limit |"
     print "|---|---|--:|--:|--:|--:|--:|--:|--:|--:|"
@@ -28,11 +31,11 @@ function short(x) { return x == "-" ? "" : x >= 100 ? sprintf("%.0f", x) : x >= 
 
 {
     split($1, name, " ")
-    ours = name[1] == "count" ? short($3) " a hit" : name[1] ~ /^map/ && $5 < 20000 ? short($4 / 1000) " µs a call" : short($3) " ns a " $2
+    ours = name[1] == "count" ? short($3) " a hit" : name[1] ~ /^(map|plain)/ && $5 < 20000 ? short($4 / 1000) " µs a call" : short($3) " ns a " $2
     for (k = 2; k <= 4; k++) if (name[k] == "-") name[k] = ""
     sub(/-/, ", ", name[2])
     print "| " what[name[1]] " | " name[2] " | " name[3] " | " name[4] " | " ours " | " short($6) " | " short($7) " | " short($8) " | " short($9) " | " short($10) " |"
-    ours_of[$1] = $3; naive[$1] = $6; gcc[$1] = $7; clang[$1] = $8; rust[$1] = $9
+    ours_of[$1] = $3; naive[$1] = $6; gcc[$1] = $7; clang[$1] = $8; rust[$1] = $9; limit[$1] = $10
 }
 
 function verdict(met) { return met ? "met" : "**missed**" }
@@ -58,6 +61,16 @@ function peers_at_512(text, row, least) {
     aim("Rust / ours, " text, rust[row], least)
 }
 
+# "Clearing costs a memset at most": our adding call and a memset, over our plain call.
+function clearing(set, size,    at, k, plain, both) {
+    for (k = 1; k <= 3; k++) {
+        at = set " " windows[k] " " size
+        plain = ours_of["plain " at]
+        both[at] = (ours_of["map " at] + limit["plain " at] * plain) / plain
+    }
+    peer("plain map, " set ", " size " MiB", set, size, 0.95, "adding and memset", both)
+}
+
 END {
     split("64 512 4096", windows, " ")
     print ""
@@ -70,6 +83,11 @@ END {
         split(rows[1 + j % n], name, " ")
         peers(what[map] ", " name[1] ", " name[2] " MiB", map " " name[1], name[2], name[3])
     }
+    for (j = 1; j <= n; j++) {
+        split(rows[j], name, " ")
+        peers("plain map, " name[1] ", " name[2] " MiB", "plain " name[1], name[2], 1.0)
+        clearing(name[1], name[2])
+    }
     peers("first hit, 2^20", "first 2^20", 64, 1.0)
     peers("first hit, 2^31", "first 2^31", 64, 1.0)
     peers_at_512("first hit with phases, 2^20", "first-phased 2^20 512 64", 1.0)
@@ -78,10 +96,10 @@ END {
     peers("listing, mix, 1 MiB", "list mix", 1, 0.9)
     peers("listing, 2^20, 64 MiB", "list 2^20", 64, 0.9)
     peers_at_512("listing with phases, 2^20, 64 MiB", "list-phased 2^20 512 64", 0.9)
-    n = split("mix 1 2.5,mix 64 4,2^20 1 45,2^20 64 45,2^31 1 45,2^31 64 1000", rows, ",")
+    n = split("map mix 1 2.5,map mix 64 4,map 2^20 1 45,map 2^20 64 45,map 2^31 1 45,map 2^31 64 1000,plain mix 1 2.5,plain mix 64 4,plain 2^20 1 45,plain 2^20 64 45,plain 2^31 1 45,plain 2^31 64 45", rows, ",")
     for (k = 1; k <= n; k++) {
         split(rows[k], name, " ")
-        aim("naive / ours, map, " name[1] ", " name[2] " MiB", naive["map " name[1] " 512 " name[2]], name[3])
+        aim("naive / ours, " what[name[1]] ", " name[2] ", " name[3] " MiB", naive[name[1] " " name[2] " 512 " name[3]], name[4])
     }
     n = split("sparse-half 1,sparse-half 64,sparse-all 1,sparse-all 64,dense-half 1,dense-half 64,dense-all 1,dense-all 64", rows, ",")
     for (k = 1; k <= n; k++) {

@@ -1,7 +1,6 @@
--- What a blanking list means, over the promises alone: the lines that it lists are the blanked ones, and of a map that the map call has
--- made of a cleared one these are the lines that the sources disturb. Of the map crate only its definition and its promise are used.
--- Assumes nothing.
-use Prim.Native.Nat.{ℕ, zero, suc, _+_, _-_, _*_, _≤_, _<_, min}
+-- What a blanking list means, over the promises alone: the lines that it lists are the blanked ones, and of a map that the plain map call
+-- has made these are the lines that the sources disturb. Of the map crate only its definition and its promise are used. Assumes nothing.
+use Prim.Native.Nat.{ℕ, zero, suc, _+_, _-_, _*_, _≤_, _<_}
 use native.Mathlib.Decide.{decLe}
 use native.Mathlib.Nat.{add-zero, add-suc, suc-add}
 use native.Mathlib.Omega.{arith}
@@ -9,16 +8,15 @@ use mathlib.Core.Path.{_≡_, sym, ap, _∙_}
 use mathlib.Core.Logic.{_↔_, Iff·trans, inl, inr}
 use mathlib.Core.List.{List, [], _∷_, _++_}
 use lib.ListN.{length, getD}
-use Rattle.rooms.specs.Lists.{zeros}
 use Rattle.scope.specs.declared.Run.{Run}
 use Rattle.scope.specs.Run.{linesOf, cellsOf}
 use Rattle.scope.proofs.Judged.{Passes, said-answered, grant-stored}
 use Rattle.scope.proofs.Limits.{passes-first, passes-then}
 use Rattle.scope.proofs.Differs.{same}
 use Rattle.sources.specs.Entry.{entriesOf}
-use Rattle.map.specs.declared.Added.the-variants.{Done as Done·added}
-use Rattle.map.specs.Sum.{capped, raised}
-use Rattle.map.specs.Promise.{mapTests, weightAt, added, MapPromiseAt}
+use Rattle.map.specs.declared.Mapped.the-variants.{Done as Done·mapped}
+use Rattle.map.specs.Sum.{capped, summed}
+use Rattle.map.specs.Promise.{mapTests, weightAt, made, MakingPromiseAt}
 use Rattle.blanking.specs.declared.Guard.{Guard}
 use Rattle.blanking.specs.declared.Blanking.the-variants.{Done}
 use Rattle.blanking.specs.declared.Stretch.{Stretch}
@@ -94,28 +92,28 @@ stretches-few run map threshold guard {stretches} m = go (decLe (run .first) (su
     go (yes some) = omega (arith, from-few (Blanked run map threshold guard) stretches last (omega arith) (stretches-from (Blanked run map threshold guard) first m))
     go (no none) = omega (arith, ap length (from-end (Blanked run map threshold guard) stretches (λ j b. absurd (omega (arith, first j b, last j b))) (stretches-from (Blanked run map threshold guard) first m)))
 
--- ---- the blanked lines of a map made by the map call
+-- ---- the blanked lines of a map made by the plain map call
 
--- a cell of a cleared map, after the call
-cleared-cell : (c : ℕ) (gain : ℕ → ℕ) (x n k : ℕ) → k < n → getD (raised c gain x (zeros n)) k 0 ≡ min c (gain (x + k))
-unfolding raised zeros
-cleared-cell c gain x zero k h = absurd (omega arith)
-cleared-cell c gain x (suc n) zero h = rw (add-zero x) (omega arith)
-cleared-cell c gain x (suc n) (suc k) h = rw (add-suc, ← suc-add) (cleared-cell c gain (suc x) n k (omega arith))
+-- a cell of such a map
+summed-cell : (c : ℕ) (gain : ℕ → ℕ) (x n k : ℕ) → k < n → getD (summed c gain x n) k 0 ≡ capped c (gain (x + k))
+unfolding summed
+summed-cell c gain x zero k h = absurd (omega arith)
+summed-cell c gain x (suc n) zero h = rw (add-zero x)
+summed-cell c gain x (suc n) (suc k) h = rw (add-suc, ← suc-add) (summed-cell c gain (suc x) n k (omega arith))
 
-module _ {c : ℕ} {run : Run} {periods weights phases map : List ℕ} (made : MapPromiseAt c run periods weights phases (zeros (cellsOf run)) Done·added map) where
-  -- what the map call leaves of it
+module _ {c : ℕ} {run : Run} {periods weights phases lent map : List ℕ} (makes : MakingPromiseAt c run periods weights phases lent Done·mapped map) where
+  -- what its cells hold
   made-cell : (x : ℕ) → x < cellsOf run → getD map x 0 ≡ capped c (weightAt run (entriesOf periods weights phases) x)
-  unfolding added
+  unfolding made
   made-cell x inside =
-      let start = zeros (cellsOf run) in
-      let passes = said-answered (mapTests c run periods weights phases start) (made .says) .0 in
-      let is : map ≡ added c run (entriesOf periods weights phases) start = made .stores ∙ sym (grant-stored start (added c run (entriesOf periods weights phases) start) passes) in
+      let entries = entriesOf periods weights phases in
+      let passes = said-answered (mapTests c run periods weights phases lent) (makes .says) .0 in
+      let is : map ≡ made c run entries = makes .stores ∙ sym (grant-stored lent (made c run entries) passes) in
       let none : 0 + x ≡ x = omega arith in
-      ap (λ l. getD l x 0) is ∙ cleared-cell c (weightAt run (entriesOf periods weights phases)) 0 (cellsOf run) x inside ∙ rw none
+      ap (λ l. getD l x 0) is ∙ summed-cell c (weightAt run entries) 0 (cellsOf run) x inside ∙ rw none
 
-  -- Of a map that the map call made of a cleared one, and a threshold up to the ceiling: a line has a guard cell at or above the
-  -- threshold exactly if the weights of the hits of a guard cell of it sum to the threshold or more.
+  -- Of a map that the plain call made, and a threshold up to the ceiling: a line has a guard cell at or above the threshold exactly if the
+  -- weights of the hits of a guard cell of it sum to the threshold or more.
   pub blanked-disturbed : (threshold : ℕ) → threshold ≤ c → (guard : Guard) (j : ℕ) → Blanked run map threshold guard j ↔ Disturbed run (entriesOf periods weights phases) threshold guard j
   blanked-disturbed threshold low guard j = (
     λ b. record { cell = b .cell; guarded = b .guarded; sums = omega (arith, made-cell (b .cell) (b .guarded .inside), b .reaches) },

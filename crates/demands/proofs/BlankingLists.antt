@@ -16,8 +16,8 @@ use Rattle.scope.specs.Run.{ValidRun, linesOf, cellsOf, shiftOf}
 use Rattle.scope.specs.Inner.{IsBlock}
 use Rattle.scope.proofs.Numbering.{cell-parts, line-shift, offset-shift, valid-block}
 use Rattle.sources.specs.Entry.{entriesOf}
-use Rattle.map.specs.declared.Added.the-variants.{Done as Done·added}
-use Rattle.map.specs.Promise.{MapPromiseAt}
+use Rattle.map.specs.declared.Mapped.the-variants.{Done as Done·mapped}
+use Rattle.map.specs.Promise.{MakingPromiseAt}
 use Rattle.blanking.specs.declared.Guard.{Guard}
 use Rattle.blanking.specs.declared.Blanking.the-variants.{Done}
 use Rattle.blanking.specs.Stretches.{Blanked}
@@ -37,10 +37,10 @@ use Rattle.demands.proofs.Demand1.{blanking-silent}
 pub listed-blanked : (run : Run) (map : List ℕ) (threshold : ℕ) (guard : Guard) (room after : List ℕ) (count : ℕ) → BlankingPromise run map threshold guard room (Done count) after → (j : ℕ) → ListedIn after count j ↔ Blanked run map threshold guard j
 listed-blanked run map threshold guard room after count h = Meaning.listed-blanked h
 
--- Where the map is what the map call leaves of a cleared map and a list of sources, and the threshold is not above the ceiling: a line is
--- in a stretch exactly if some guard cell of it has weights of its hits that sum to the threshold or more.
-pub listed-disturbed : (c : ℕ) (run : Run) (periods weights phases map : List ℕ) → MapPromiseAt c run periods weights phases (zeros (cellsOf run)) Done·added map → (threshold : ℕ) → threshold ≤ c → (guard : Guard) (room after : List ℕ) (count : ℕ) → BlankingPromise run map threshold guard room (Done count) after → (j : ℕ) → ListedIn after count j ↔ Disturbed run (entriesOf periods weights phases) threshold guard j
-listed-disturbed c run periods weights phases map made threshold low guard room after count h = Meaning.listed-disturbed made low h
+-- Where the plain map call made the map of a list of sources, and the threshold is not above the ceiling: a line is in a stretch exactly if
+-- some guard cell of it has weights of its hits that sum to the threshold or more.
+pub listed-disturbed : (c : ℕ) (run : Run) (periods weights phases lent map : List ℕ) → MakingPromiseAt c run periods weights phases lent Done·mapped map → (threshold : ℕ) → threshold ≤ c → (guard : Guard) (room after : List ℕ) (count : ℕ) → BlankingPromise run map threshold guard room (Done count) after → (j : ℕ) → ListedIn after count j ↔ Disturbed run (entriesOf periods weights phases) threshold guard j
+listed-disturbed c run periods weights phases lent map makes threshold low guard room after count h = Meaning.listed-disturbed makes low h
 
 -- A room of one number more than the run has lines is never refused 21.
 pub room-enough : (run : Run) (map : List ℕ) (threshold : ℕ) (guard : Guard) (room : List ℕ) → suc (linesOf run) ≤ length room → HoldsFewer run map threshold guard room → ⊥

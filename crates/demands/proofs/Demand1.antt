@@ -32,8 +32,8 @@ use Rattle.vectors.specs.Promise.{vectorsTests, saysVectors, Admits, VectorsPro
 use Rattle.hits.specs.declared.FirstHit.{FirstHit}
 use Rattle.hits.specs.declared.Listing.{Listing}
 use Rattle.hits.specs.Promise.{firstHitTests, saysFirstHit, saysListing, first, listed, written, FirstHitPromise, ListingPromise}
-use Rattle.map.specs.declared.Added.{Added}
-use Rattle.map.specs.Promise.{mapTests, added, saysMap, MapPromise}
+use Rattle.map.specs.declared.Mapped.{Mapped}
+use Rattle.map.specs.Promise.{mapTests, saysMap, MapCallAt}
 use Rattle.blanking.specs.declared.Guard.{Guard}
 use Rattle.blanking.specs.declared.Blanking.{Blanking}
 use Rattle.blanking.specs.Promise.{saysBlanking, BlankingPromise}
@@ -105,16 +105,16 @@ module _ (run : Run) (source : Source) (start : RunCell) where
     pub listing-keeps : (n : ℕ) (place : Place) → saysListing r ≡ refused n place → after ≡ room
     listing-keeps = keeps (listing-renders run source start room) (listed (hitsFrom run source (start .0)) room) (saysListing r) (h .says) room (written (hitsFrom run source (start .0)) room) after (h .stores)
 
--- ---- map
+-- ---- map: both calls, whatever new cells each makes
 
-module _ (run : Run) (periods weights phases map : List ℕ) (answer : Added) (after : List ℕ) (h : MapPromise run periods weights phases map answer after) where
-  -- A reply of the map call reads "refused n" at a place exactly when its table says so.
+module _ (run : Run) (periods weights phases map : List ℕ) {new : List ℕ} (answer : Mapped) (after : List ℕ) (h : MapCallAt ceiling run periods weights phases map new answer after) where
+  -- A reply of a map call reads "refused n" at a place exactly when the table says so.
   pub map-refused : (n : ℕ) (place : Place) → (saysMap answer ≡ refused n place) ↔ Says (mapTable run periods weights phases map) n place
   map-refused = exactly (map-renders run periods weights phases map) tt (saysMap answer) (h .says)
 
-  -- And the map then holds what it held: none is "half written before the tenth source is refused".
+  -- And the map then holds what it held: none is "half written before the tenth source is refused", nor cleared.
   pub map-keeps : (n : ℕ) (place : Place) → saysMap answer ≡ refused n place → after ≡ map
-  map-keeps = keeps (map-renders run periods weights phases map) tt (saysMap answer) (h .says) map (added ceiling run (entriesOf periods weights phases) map) after (h .stores)
+  map-keeps = keeps (map-renders run periods weights phases map) tt (saysMap answer) (h .says) map new after (h .stores)
 
 -- ---- the blanking list
 
@@ -222,7 +222,7 @@ module _ (run : Run) (fits : run .interval ≤ 4294967295) where
         λ h. rows .passes .0 (both (both (valid-run-passes (h .0)) (valid-source-passes (h .1))) (sound (lt-leb _ _ (h .2)))),
       )
 
-  -- That of the map call exactly if the run and all sources are, and the lists and the map have the right lengths.
+  -- That of the map calls exactly if the run and all sources are, and the lists and the map have the right lengths.
   pub map-silent : (periods weights phases map : List ℕ) → Silent (mapTable run periods weights phases map) ↔ (ValidRun run × OneLength periods weights phases × ValidEntries ceiling (entriesOf periods weights phases) × (length map ≡ cellsOf run))
   unfolding mapTests
   map-silent periods weights phases map =
@@ -269,8 +269,8 @@ entries-at-fault entries n place = rw (entries-of entries) at (sources-at-fault 
 
 -- Where the run and the lengths of the lists are in order, a map call reads "refused n" at a place, n being no 9, exactly if a source
 -- is so at fault: then n is 4, 7 or 22, and the place is that source's.
-pub map-at-fault : (run : Run) (periods weights phases map : List ℕ) (answer : Added) (after : List ℕ) → MapPromise run periods weights phases map answer after → Silent (runTable run) → OneLength periods weights phases → (n : ℕ) (place : Place) → n ≢ 9 → (saysMap answer ≡ refused n place) ↔ AtFault periods weights phases n place
-map-at-fault run periods weights phases map answer after h fine equal n place other = Iff·trans (map-refused run periods weights phases map answer after h n place) (Iff·trans (to, from) (sources-at-fault periods weights phases equal n place))
+pub map-at-fault : (run : Run) (periods weights phases map : List ℕ) {new : List ℕ} (answer : Mapped) (after : List ℕ) → MapCallAt ceiling run periods weights phases map new answer after → Silent (runTable run) → OneLength periods weights phases → (n : ℕ) (place : Place) → n ≢ 9 → (saysMap answer ≡ refused n place) ↔ AtFault periods weights phases n place
+map-at-fault run periods weights phases map {new} answer after h fine equal n place other = Iff·trans (map-refused run periods weights phases map answer after h n place) (Iff·trans (to, from) (sources-at-fault periods weights phases equal n place))
   where
     sources : List Row
     sources = sourcesTable 1 (entriesOf periods weights phases)

@@ -10,6 +10,7 @@ use lib.IntN.{pos}
 use lib.ListN.{length}
 use Rattle.rooms.specs.Lists.{zeros}
 use Rattle.scope.specs.declared.Run.{Run}
+use Rattle.scope.specs.Run.{ceiling}
 use Rattle.scope.specs.declared.Source.{Source}
 use Rattle.scope.specs.declared.RunCell.{RunCell}
 use Rattle.scope.specs.declared.Reason.{Reason}
@@ -25,9 +26,9 @@ use Rattle.hits.specs.declared.FirstHit.the-variants.{At, Nothing, Refused as R
 use Rattle.hits.specs.declared.Listing.{Listing}
 use Rattle.hits.specs.declared.Listing.the-variants.{Done as Done·listing, More, Refused as Refused·listing}
 use Rattle.hits.specs.Promise.{saysFirstHit, saysListing, FirstHitPromise, ListingPromise}
-use Rattle.map.specs.declared.Added.{Added}
-use Rattle.map.specs.declared.Added.the-variants.{Done as Done·added, Refused as Refused·added}
-use Rattle.map.specs.Promise.{saysMap, MapPromise}
+use Rattle.map.specs.declared.Mapped.{Mapped}
+use Rattle.map.specs.declared.Mapped.the-variants.{Done as Done·mapped, Refused as Refused·mapped}
+use Rattle.map.specs.Promise.{saysMap, MapCallAt}
 use Rattle.blanking.specs.declared.Guard.{Guard}
 use Rattle.blanking.specs.declared.Blanking.{Blanking}
 use Rattle.blanking.specs.declared.Blanking.the-variants.{Done as Done·blanking, Refused as Refused·blanking}
@@ -46,13 +47,13 @@ use Rattle.text.specs.Promise.{mostSources, refusal, saysText, TextPromise}
 use Rattle.exports.specs.declared.StepsReply.{StepsReply}
 use Rattle.exports.specs.declared.FirstHitReply.{FirstHitReply}
 use Rattle.exports.specs.declared.ListingReply.{ListingReply}
-use Rattle.exports.specs.declared.AddedReply.{AddedReply}
+use Rattle.exports.specs.declared.MappedReply.{MappedReply}
 use Rattle.exports.specs.declared.BlankingReply.{BlankingReply}
 use Rattle.exports.specs.declared.RunReply.{RunReply}
 use Rattle.exports.specs.declared.TextReply.{TextReply}
 use Rattle.demands.specs.Places.{RightPlace}
 use Rattle.exports.specs.Promise.{Exported}
-use Rattle.exports.specs.Replies.{tellPlace, tellSteps, tellFirst, tellListing, tellAdded, tellBlanking, tellSaved, tellLoaded, tellAnswer, tellTextPlace, tellText}
+use Rattle.exports.specs.Replies.{tellPlace, tellSteps, tellFirst, tellListing, tellMapped, tellBlanking, tellSaved, tellLoaded, tellAnswer, tellTextPlace, tellText}
 use Rattle.scope.specs.Table.{Says, PlaceTold, Tells}
 use Rattle.saved.specs.Table.{savingTable, readingTable}
 use Rattle.vectors.specs.Table.{vectorsTable}
@@ -186,13 +187,13 @@ listing-only (Done·listing m) n place e = absurd (let z : _≡_ {A = ℕ} 0 1 =
 listing-only (More m cell) n place e = absurd (let z : _≡_ {A = ℕ} 0 1 = cc in omega arith)
 listing-only (Refused·listing reason k) n place e = (reason, ap (Refused·listing reason) (refused-same e .1))
 
-added-field : (r : Added) → tellAdded r .refusal ≡ refusalIn (saysMap r)
-added-field Done·added = refl
-added-field (Refused·added reason place) = refl
+mapped-field : (r : Mapped) → tellMapped r .refusal ≡ refusalIn (saysMap r)
+mapped-field Done·mapped = refl
+mapped-field (Refused·mapped reason place) = refl
 
-added-place : (r : Added) → tellAdded r .place ≡ placeIn (saysMap r)
-added-place Done·added = refl
-added-place (Refused·added reason place) = refl
+mapped-place : (r : Mapped) → tellMapped r .place ≡ placeIn (saysMap r)
+mapped-place Done·mapped = refl
+mapped-place (Refused·mapped reason place) = refl
 
 blanking-field : (r : Blanking) → tellBlanking r .refusal ≡ refusalIn (saysBlanking r)
 blanking-field (Done·blanking m) = refl
@@ -265,15 +266,15 @@ module _ (run : Run) (source : Source) (start : RunCell) where
         let (reason, place, is) = alone e (λ a. a .refusal) saysListing listing-field Refused·listing (λ r h. listing-only r) some in
         (rw is refl, kept e (λ a. a .refusal) saysListing listing-field (λ r h. listing-keeps run source start room r after h) some)
 
--- `zenithgong_add_to_map`, whose answer is the refusal and its place
-module _ (run : Run) (periods weights phases map : List ℕ) {after : List ℕ} {a : AddedReply} (e : Exported (λ r. MapPromise run periods weights phases map r after) tellAdded a) where
+-- `zenithgong_make_map` and `zenithgong_add_to_map`, whose answer is the refusal and its place
+module _ (run : Run) (periods weights phases map : List ℕ) {new after : List ℕ} {a : MappedReply} (e : Exported (λ r. MapCallAt ceiling run periods weights phases map new r after) tellMapped a) where
   pub exported-map-refused : Tells (Says (mapTable run periods weights phases map)) (a .refusal) (a .place)
   exported-map-refused =
-      by-table e (λ a. a .refusal) saysMap added-field (λ a. a .place) (λ r h. added-place r) (λ r h. map-refused run periods weights phases map r after h)
+      by-table e (λ a. a .refusal) saysMap mapped-field (λ a. a .place) (λ r h. mapped-place r) (λ r h. map-refused run periods weights phases map r after h)
       (λ n place t. (said-some (map-renders run periods weights phases map) n place t, right-counted (length periods) n place (every-said (RightPlace (length periods)) (mapTable run periods weights phases map) (map-placed run periods weights phases map) n place t)))
 
   pub exported-map-keeps : a .refusal ≢ 0 → after ≡ map
-  exported-map-keeps = kept e (λ a. a .refusal) saysMap added-field (λ r h. map-keeps run periods weights phases map r after h)
+  exported-map-keeps = kept e (λ a. a .refusal) saysMap mapped-field (λ r h. map-keeps run periods weights phases map r after h)
 
 -- `zenithgong_list_stretches`
 module _ (run : Run) (map : List ℕ) (threshold : ℕ) (guard : Guard) (room : List ℕ) {after : List ℕ} {a : BlankingReply} (e : Exported (λ r. BlankingPromise run map threshold guard room r after) tellBlanking a) where

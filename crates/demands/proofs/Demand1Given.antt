@@ -16,7 +16,7 @@ use Rattle.blanking.proofs.Table.{blanking-renders}
 use Rattle.saved.proofs.Table.{saving-renders, reading-renders}
 use Rattle.text.specs.Table.{SaysOfText}
 use Rattle.text.proofs.Table.{text-renders}
-use Rattle.demands.specs.Given.{Gives, vectors, first-hit, listing, map, blanking, saving, reading, text, report, c-vectors, c-first-hit, c-listing, c-map, c-blanking, c-saving, c-reading, c-text}
+use Rattle.demands.specs.Given.{Gives, vectors, first-hit, listing, making, adding, blanking, saving, reading, text, report, c-vectors, c-first-hit, c-listing, c-making, c-adding, c-blanking, c-saving, c-reading, c-text}
 use Rattle.demands.proofs.Demand1.{vectors-refused, first-hit-refused, listing-refused, map-refused, blanking-refused, saving-refused, reading-refused, text-refused, report-refused}
 use Rattle.demands.proofs.Demand1Exports.{exported-vectors-refused, exported-first-hit-refused, exported-listing-refused, exported-map-refused, exported-blanking-refused, exported-saving-refused, exported-reading-refused, exported-text-refused}
 
@@ -40,7 +40,8 @@ module _ (n : ℕ) (gone : Withdrawn n) where
   never-given (vectors p r I steps h place e) = said-not-withdrawn (vectors-renders p r I) n gone place (vectors-refused p r I steps h n place .0 e)
   never-given (first-hit run source start r h place e) = said-not-withdrawn (first-hit-renders run source start) n gone place (first-hit-refused run source start r h n place .0 e)
   never-given (listing run source start room r after h place e) = said-not-withdrawn (listing-renders run source start room) n gone place (listing-refused run source start room r after h n place .0 e)
-  never-given (map run periods weights phases before r after h place e) = said-not-withdrawn (map-renders run periods weights phases before) n gone place (map-refused run periods weights phases before r after h n place .0 e)
+  never-given (making run periods weights phases before r after h place e) = said-not-withdrawn (map-renders run periods weights phases before) n gone place (map-refused run periods weights phases before r after h n place .0 e)
+  never-given (adding run periods weights phases before r after h place e) = said-not-withdrawn (map-renders run periods weights phases before) n gone place (map-refused run periods weights phases before r after h n place .0 e)
   never-given (blanking run cells threshold guard room r after h place e) = said-not-withdrawn (blanking-renders run cells threshold guard room (h .are)) n gone place (blanking-refused run cells threshold guard room r after h n place .0 e)
   never-given (saving run cells room r after h place e) = said-not-withdrawn (saving-renders run cells room) n gone place (saving-refused run cells room r after h n place .0 e)
   never-given (reading file before r after h place e) = said-not-withdrawn (reading-renders file before) n gone place (reading-refused file before r after h n place .0 e)
@@ -49,7 +50,8 @@ module _ (n : ℕ) (gone : Withdrawn n) where
   never-given (c-vectors p r I a h e some) = untold (exported-vectors-refused p r I h) (said-not-withdrawn (vectors-renders p r I) n gone) e some
   never-given (c-first-hit run source start a h e some) = untold (exported-first-hit-refused run source start h) (said-not-withdrawn (first-hit-renders run source start) n gone) e some
   never-given (c-listing run source start room a after h e some) = untold (exported-listing-refused run source start room h) (said-not-withdrawn (listing-renders run source start room) n gone) e some
-  never-given (c-map run periods weights phases before a after h e some) = untold (exported-map-refused run periods weights phases before h) (said-not-withdrawn (map-renders run periods weights phases before) n gone) e some
+  never-given (c-making run periods weights phases before a after h e some) = untold (exported-map-refused run periods weights phases before h) (said-not-withdrawn (map-renders run periods weights phases before) n gone) e some
+  never-given (c-adding run periods weights phases before a after h e some) = untold (exported-map-refused run periods weights phases before h) (said-not-withdrawn (map-renders run periods weights phases before) n gone) e some
   never-given (c-blanking run cells threshold guard room a after h e some) = untold (exported-blanking-refused run cells threshold guard room h) (said-not-withdrawn (blanking-renders run cells threshold guard room (h .promised .are)) n gone) e some
   never-given (c-saving run cells room a after h e some) = untold (exported-saving-refused run cells room h) (said-not-withdrawn (saving-renders run cells room) n gone) e some
   never-given (c-reading file before a after h e some) = untold (exported-reading-refused file before h) (said-not-withdrawn (reading-renders file before) n gone) e some

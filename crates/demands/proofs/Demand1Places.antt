@@ -14,7 +14,7 @@ use Rattle.scope.specs.declared.RunCell.{RunCell}
 use Rattle.scope.specs.declared.Reason.{Reason}
 use Rattle.scope.specs.declared.Place.{Place}
 use Rattle.scope.specs.declared.Place.the-variants.{Nowhere}
-use Rattle.scope.specs.Run.{cellsOf}
+use Rattle.scope.specs.Run.{ceiling, cellsOf}
 use Rattle.scope.specs.Refusal.{number}
 use Rattle.scope.specs.Reply.{refused}
 use Rattle.scope.specs.Table.{Row, _given_, Says, runTable}
@@ -28,8 +28,8 @@ use Rattle.vectors.specs.Promise.{saysVectors, VectorsPromise}
 use Rattle.hits.specs.declared.FirstHit.{FirstHit}
 use Rattle.hits.specs.declared.Listing.{Listing}
 use Rattle.hits.specs.Promise.{saysFirstHit, saysListing, FirstHitPromise, ListingPromise}
-use Rattle.map.specs.declared.Added.{Added}
-use Rattle.map.specs.Promise.{saysMap, MapPromise}
+use Rattle.map.specs.declared.Mapped.{Mapped}
+use Rattle.map.specs.Promise.{saysMap, MapCallAt}
 use Rattle.map.specs.Table.{mapTable}
 use Rattle.fileblocks.specs.FileBlock.{contentBytes}
 use Rattle.fileblocks.specs.Table.{fileBlockTable}
@@ -164,8 +164,8 @@ text-placed content =
     every-append (RightPlace count) (runTable (content .run)) many (run-placed count (content .run))
     (no-source count 12 (λ e. omega arith) (λ e. omega arith) (λ e. omega arith), sources-placed count 1 (content .entries) (omega arith) (omega arith))
 
--- A refusal of the map call for 4, 7 or 22 has a place between 1 and the length of the list of periods, and no other refusal has one.
-module _ (run : Run) (periods weights phases map : List ℕ) (answer : Added) (after : List ℕ) (h : MapPromise run periods weights phases map answer after) where
+-- A refusal of a map call for 4, 7 or 22 has a place between 1 and the length of the list of periods, and no other refusal has one.
+module _ (run : Run) (periods weights phases map : List ℕ) {new : List ℕ} (answer : Mapped) (after : List ℕ) (h : MapCallAt ceiling run periods weights phases map new answer after) where
   pub map-place : (n : ℕ) (place : Place) → saysMap answer ≡ refused n place → RightPlace (length periods) n place
   map-place n place e = every-said (RightPlace (length periods)) (mapTable run periods weights phases map) (map-placed run periods weights phases map) n place (map-refused run periods weights phases map answer after h n place .0 e)
 

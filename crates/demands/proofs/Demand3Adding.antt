@@ -1,6 +1,6 @@
 -- Demand 3, the map: "Add the sources to the blocks in any order, each source once to each block, each call finding the map as
 -- the one before left it: every cell then holds what it held before plus the weights of all its hits, or 255 if that is more."
--- Over the promise of the map call alone, for every cut, every history of calls and every ceiling. Kept from call to call: the maps
+-- Over the promise of the adding call alone, for every cut, every history of calls and every ceiling. Kept from call to call: the maps
 -- are as long as their blocks, and what is still to be added is within the limits. Assumes nothing.
 use Prim.Native.Nat.{ℕ, zero, suc, _+_, _≤_, _<_}
 use native.Mathlib.Nat.{zero-add}
@@ -19,14 +19,14 @@ use Rattle.sources.specs.Entry.{Entry}
 use Rattle.scope.proofs.Judged.{Passes, sound, both}
 use Rattle.scope.proofs.Limits.{valid-run-passes}
 use Rattle.scope.proofs.Hits.{hit-hits}
-use Rattle.map.specs.declared.Added.{Added}
-use Rattle.map.specs.declared.Added.the-variants.{Done}
+use Rattle.map.specs.declared.Mapped.{Mapped}
+use Rattle.map.specs.declared.Mapped.the-variants.{Done}
 use Rattle.map.specs.Sum.{capped}
-use Rattle.map.specs.Promise.{mapTests, weightAt, added, MapPromiseAt}
+use Rattle.map.specs.Promise.{mapTests, weightAt, added, AddingPromiseAt}
 use Rattle.sources.specs.Lists.{periodsOf, weightsOf, phasesOf, ValidEntries}
 use Rattle.sources.proofs.Entries.{valid-entries-pass, valid-lists, entries-of, one-length}
 use Rattle.map.proofs.Entries.{weight-shift, added-append, added-none, added-same, added-length, added-within, added-getD}
-use Rattle.map.proofs.Unique.{granted-call, stores-added, says-map-injective}
+use Rattle.map.proofs.Unique.{granted-call, stores-new, says-map-injective}
 use Rattle.demands.specs.FirstHit.{HitsCell}
 use Rattle.demands.specs.Cut.{Cut}
 use Rattle.demands.specs.Adding.{together, Maps, Call, Keep, leave, addedTo, NoneRefused, History, Adds}
@@ -85,9 +85,9 @@ module _ (c : ℕ) where
       (sound (ap not (eq-eqb _ _ e)))
 
   -- such a call, if it keeps its promise, is not refused and adds its entries
-  call-adds : {block : Run} (entries : List Entry) {map : List ℕ} {answer : Added} {after : List ℕ} → ValidRun block → ValidEntries c entries → length map ≡ cellsOf block → MapPromiseAt c block (periodsOf entries) (weightsOf entries) (phasesOf entries) map answer after → (answer ≡ Done) × (after ≡ added c block entries map)
+  call-adds : {block : Run} (entries : List Entry) {map : List ℕ} {answer : Mapped} {after : List ℕ} → ValidRun block → ValidEntries c entries → length map ≡ cellsOf block → AddingPromiseAt c block (periodsOf entries) (weightsOf entries) (phasesOf entries) map answer after → (answer ≡ Done) × (after ≡ added c block entries map)
   call-adds {block} entries {map} {answer} {after} v w e m =
-      let got = stores-added (call-passes entries map v w e) m in
+      let got = stores-new (call-passes entries map v w e) m in
       (says-map-injective answer Done (got .0), got .1 ∙ ap (λ (l : List Entry). added c block l map) (entries-of entries))
 
   -- ---- a history, call after call

@@ -20,4 +20,5 @@ pub mod Phases
 pub mod BlankingLists
 pub mod CutMaps
 pub mod Demand3Adding
+pub mod Making
 pub mod Texts

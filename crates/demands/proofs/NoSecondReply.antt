@@ -15,8 +15,8 @@ use Rattle.hits.specs.declared.FirstHit.{FirstHit}
 use Rattle.hits.specs.declared.Listing.{Listing}
 use Rattle.hits.specs.Promise.{FirstHitPromise, ListingPromise}
 use Rattle.hits.proofs.Unique as Hits
-use Rattle.map.specs.declared.Added.{Added}
-use Rattle.map.specs.Promise.{MapPromise}
+use Rattle.map.specs.declared.Mapped.{Mapped}
+use Rattle.map.specs.Promise.{MakingPromise, AddingPromise}
 use Rattle.map.proofs.Unique as Map
 use Rattle.blanking.specs.declared.Guard.{Guard}
 use Rattle.blanking.specs.declared.Blanking.{Blanking}
@@ -45,9 +45,13 @@ first-hit-unique = Hits.first-hit-unique
 pub listing-unique : (run : Run) (source : Source) (start : RunCell) (room : List ℕ) (a b : Listing) (after after′ : List ℕ) → ListingPromise run source start room a after → ListingPromise run source start room b after′ → (a ≡ b) × (after ≡ after′)
 listing-unique run source start room a b after after′ = Hits.listing-unique
 
--- The map call: one reply, and one map after it.
-pub map-unique : (run : Run) (periods weights phases map : List ℕ) (a b : Added) (after after′ : List ℕ) → MapPromise run periods weights phases map a after → MapPromise run periods weights phases map b after′ → (a ≡ b) × (after ≡ after′)
-map-unique run periods weights phases map a b after after′ = Map.map-unique
+-- The plain map call: one reply, and one map after it.
+pub making-unique : (run : Run) (periods weights phases map : List ℕ) (a b : Mapped) (after after′ : List ℕ) → MakingPromise run periods weights phases map a after → MakingPromise run periods weights phases map b after′ → (a ≡ b) × (after ≡ after′)
+making-unique run periods weights phases map a b after after′ = Map.call-unique
+
+-- The adding call: one reply, and one map after it.
+pub adding-unique : (run : Run) (periods weights phases map : List ℕ) (a b : Mapped) (after after′ : List ℕ) → AddingPromise run periods weights phases map a after → AddingPromise run periods weights phases map b after′ → (a ≡ b) × (after ≡ after′)
+adding-unique run periods weights phases map a b after after′ = Map.call-unique
 
 -- The blanking call: one reply, and one room after it.
 pub blanking-unique : (run : Run) (map : List ℕ) (threshold : ℕ) (guard : Guard) (room : List ℕ) (a b : Blanking) (after after′ : List ℕ) → BlankingPromise run map threshold guard room a after → BlankingPromise run map threshold guard room b after′ → (a ≡ b) × (after ≡ after′)

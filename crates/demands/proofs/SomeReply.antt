@@ -13,8 +13,8 @@ use Rattle.hits.specs.declared.FirstHit.{FirstHit}
 use Rattle.hits.specs.declared.Listing.{Listing}
 use Rattle.hits.specs.Promise.{FirstHitPromise, ListingPromise}
 use Rattle.hits.proofs.Unique as Hits
-use Rattle.map.specs.declared.Added.{Added}
-use Rattle.map.specs.Promise.{MapPromise}
+use Rattle.map.specs.declared.Mapped.{Mapped}
+use Rattle.map.specs.Promise.{MakingPromise, AddingPromise}
 use Rattle.map.proofs.Unique as Map
 use Rattle.blanking.specs.declared.Guard.{Guard}
 use Rattle.blanking.specs.declared.Blanking.{Blanking}
@@ -47,9 +47,13 @@ listing-exists = Hits.listing-exists
 
 -- ---- map, blanking list, saving and reading: the call is refused, or it is done
 
--- Some reply and some map after it fit the map call.
-pub map-exists : (run : Run) (periods weights phases map : List ℕ) → (answer : Added) × (after : List ℕ) × MapPromise run periods weights phases map answer after
-map-exists = Map.map-exists ceiling
+-- Some reply and some map after it fit the plain map call.
+pub making-exists : (run : Run) (periods weights phases map : List ℕ) → (answer : Mapped) × (after : List ℕ) × MakingPromise run periods weights phases map answer after
+making-exists run periods weights phases map = Map.call-exists ceiling run periods weights phases map _
+
+-- Some reply and some map after it fit the adding call.
+pub adding-exists : (run : Run) (periods weights phases map : List ℕ) → (answer : Mapped) × (after : List ℕ) × AddingPromise run periods weights phases map answer after
+adding-exists run periods weights phases map = Map.call-exists ceiling run periods weights phases map _
 
 -- Some reply and some room after it fit the blanking call.
 pub blanking-exists : (run : Run) (map : List ℕ) (threshold : ℕ) (guard : Guard) (room : List ℕ) → (answer : Blanking) × (after : List ℕ) × BlankingPromise run map threshold guard room answer after

@@ -1,6 +1,6 @@
 -- Demand 3: "Add the sources to the blocks in any order, each source once to each block, each call finding the map as the one
 -- before left it": the blocks' maps, and a history of calls. At any ceiling c: demand 3 is at `ceiling`,
--- where the promise that each call keeps is `MapPromise`.
+-- where the promise that each call keeps is `AddingPromise`.
 use Prim.Native.Nat.{ℕ, _+_, _<_}
 use mathlib.Core.Path.{_≡_}
 use mathlib.Core.Bool.{cond}
@@ -12,10 +12,10 @@ use Rattle.scope.specs.declared.RunCell.{RunCell}
 use Rattle.scope.specs.declared.BlockCell.{BlockCell}
 use Rattle.scope.specs.Run.{ValidRun, UpTo, cellsOf, toRun}
 use Rattle.sources.specs.Entry.{Entry}
-use Rattle.map.specs.declared.Added.{Added}
-use Rattle.map.specs.declared.Added.the-variants.{Done}
+use Rattle.map.specs.declared.Mapped.{Mapped}
+use Rattle.map.specs.declared.Mapped.the-variants.{Done}
 use Rattle.map.specs.Sum.{capped}
-use Rattle.map.specs.Promise.{weightAt, added, MapPromiseAt}
+use Rattle.map.specs.Promise.{weightAt, added, AddingPromiseAt}
 use Rattle.sources.specs.Lists.{periodsOf, weightsOf, phasesOf, ValidEntries}
 use Rattle.demands.specs.Cut.{Cut}
 
@@ -35,7 +35,7 @@ Maps (block ∷ blocks) (map ∷ maps) = (length map ≡ cellsOf block) × Maps 
 pub record Call : Type 0 where
   pub block : ℕ
   pub entries : List Entry
-  pub answer : Added
+  pub answer : Mapped
   pub after : List ℕ
 
 -- Every call keeps its promise, "each call finding the map as the one before left it".
@@ -43,7 +43,7 @@ abbrev pub Keep : ℕ → Run → List Run → List (List ℕ) → List Call →
 Keep c run blocks maps [] = Unit {0}
 Keep c run blocks maps (call ∷ calls) =
     (call .block < length blocks) ×
-    MapPromiseAt c (getD blocks (call .block) run) (periodsOf (call .entries)) (weightsOf (call .entries)) (phasesOf (call .entries)) (getD maps (call .block) []) (call .answer) (call .after) ×
+    AddingPromiseAt c (getD blocks (call .block) run) (periodsOf (call .entries)) (weightsOf (call .entries)) (phasesOf (call .entries)) (getD maps (call .block) []) (call .answer) (call .after) ×
     Keep c run blocks (set maps (call .block) (call .after)) calls
 
 -- What the calls leave in the blocks' maps.

@@ -12,8 +12,8 @@ use Rattle.vectors.specs.Promise.{saysVectors, VectorsPromise}
 use Rattle.hits.specs.declared.FirstHit.{FirstHit}
 use Rattle.hits.specs.declared.Listing.{Listing}
 use Rattle.hits.specs.Promise.{saysFirstHit, saysListing, FirstHitPromise, ListingPromise}
-use Rattle.map.specs.declared.Added.{Added}
-use Rattle.map.specs.Promise.{saysMap, MapPromise}
+use Rattle.map.specs.declared.Mapped.{Mapped}
+use Rattle.map.specs.Promise.{saysMap, MakingPromise, AddingPromise}
 use Rattle.blanking.specs.declared.Guard.{Guard}
 use Rattle.blanking.specs.declared.Blanking.{Blanking}
 use Rattle.blanking.specs.Promise.{saysBlanking, BlankingPromise}
@@ -28,12 +28,12 @@ use Rattle.report.specs.Promise.{ReportPromise}
 use Rattle.exports.specs.declared.StepsReply.{StepsReply}
 use Rattle.exports.specs.declared.FirstHitReply.{FirstHitReply}
 use Rattle.exports.specs.declared.ListingReply.{ListingReply}
-use Rattle.exports.specs.declared.AddedReply.{AddedReply}
+use Rattle.exports.specs.declared.MappedReply.{MappedReply}
 use Rattle.exports.specs.declared.BlankingReply.{BlankingReply}
 use Rattle.exports.specs.declared.RunReply.{RunReply}
 use Rattle.exports.specs.declared.TextReply.{TextReply}
 use Rattle.exports.specs.Promise.{Exported}
-use Rattle.exports.specs.Replies.{tellSteps, tellFirst, tellListing, tellAdded, tellBlanking, tellSaved, tellLoaded, tellText}
+use Rattle.exports.specs.Replies.{tellSteps, tellFirst, tellListing, tellMapped, tellBlanking, tellSaved, tellLoaded, tellText}
 use Rattle.demands.specs.Texts.{printedBy}
 
 -- The refusal number n is given: by some call, on some input, in some reply that its promise admits. First the operations, each
@@ -42,7 +42,8 @@ pub data Gives (n : ℕ) : Type 0 where
   vectors : (p r I : ℕ) (steps : Steps) → VectorsPromise p r I steps → (place : Place) → saysVectors steps ≡ refused n place → Gives n
   first-hit : (run : Run) (source : Source) (start : RunCell) (reply : FirstHit) → FirstHitPromise run source start reply → (place : Place) → saysFirstHit reply ≡ refused n place → Gives n
   listing : (run : Run) (source : Source) (start : RunCell) (room : List ℕ) (reply : Listing) (after : List ℕ) → ListingPromise run source start room reply after → (place : Place) → saysListing reply ≡ refused n place → Gives n
-  map : (run : Run) (periods weights phases before : List ℕ) (answer : Added) (after : List ℕ) → MapPromise run periods weights phases before answer after → (place : Place) → saysMap answer ≡ refused n place → Gives n
+  making : (run : Run) (periods weights phases before : List ℕ) (answer : Mapped) (after : List ℕ) → MakingPromise run periods weights phases before answer after → (place : Place) → saysMap answer ≡ refused n place → Gives n
+  adding : (run : Run) (periods weights phases before : List ℕ) (answer : Mapped) (after : List ℕ) → AddingPromise run periods weights phases before answer after → (place : Place) → saysMap answer ≡ refused n place → Gives n
   blanking : (run : Run) (cells : List ℕ) (threshold : ℕ) (guard : Guard) (room : List ℕ) (answer : Blanking) (after : List ℕ) → BlankingPromise run cells threshold guard room answer after → (place : Place) → saysBlanking answer ≡ refused n place → Gives n
   saving : (run : Run) (cells room : List ℕ) (answer : Saved) (after : List ℕ) → SavingPromise run cells room answer after → (place : Place) → saysSaving answer ≡ refused n place → Gives n
   reading : (file before : List ℕ) (answer : Loaded) (after : List ℕ) → ReadingPromise file before answer after → (place : Place) → saysReading answer ≡ refused n place → Gives n
@@ -51,7 +52,8 @@ pub data Gives (n : ℕ) : Type 0 where
   c-vectors : (p r I : ℕ) (answer : StepsReply) → Exported (VectorsPromise p r I) tellSteps answer → answer .refusal ≡ n → 1 ≤ n → Gives n
   c-first-hit : (run : Run) (source : Source) (start : RunCell) (answer : FirstHitReply) → Exported (FirstHitPromise run source start) tellFirst answer → answer .refusal ≡ n → 1 ≤ n → Gives n
   c-listing : (run : Run) (source : Source) (start : RunCell) (room : List ℕ) (answer : ListingReply) (after : List ℕ) → Exported (λ r. ListingPromise run source start room r after) tellListing answer → answer .refusal ≡ n → 1 ≤ n → Gives n
-  c-map : (run : Run) (periods weights phases before : List ℕ) (answer : AddedReply) (after : List ℕ) → Exported (λ r. MapPromise run periods weights phases before r after) tellAdded answer → answer .refusal ≡ n → 1 ≤ n → Gives n
+  c-making : (run : Run) (periods weights phases before : List ℕ) (answer : MappedReply) (after : List ℕ) → Exported (λ r. MakingPromise run periods weights phases before r after) tellMapped answer → answer .refusal ≡ n → 1 ≤ n → Gives n
+  c-adding : (run : Run) (periods weights phases before : List ℕ) (answer : MappedReply) (after : List ℕ) → Exported (λ r. AddingPromise run periods weights phases before r after) tellMapped answer → answer .refusal ≡ n → 1 ≤ n → Gives n
   c-blanking : (run : Run) (cells : List ℕ) (threshold : ℕ) (guard : Guard) (room : List ℕ) (answer : BlankingReply) (after : List ℕ) → Exported (λ r. BlankingPromise run cells threshold guard room r after) tellBlanking answer → answer .refusal ≡ n → 1 ≤ n → Gives n
   c-saving : (run : Run) (cells room : List ℕ) (answer : ℕ) (after : List ℕ) → Exported (λ r. SavingPromise run cells room r after) tellSaved answer → answer ≡ n → 1 ≤ n → Gives n
   c-reading : (file before : List ℕ) (answer : RunReply) (after : List ℕ) → Exported (λ r. ReadingPromise file before r after) tellLoaded answer → answer .refusal ≡ n → 1 ≤ n → Gives n

@@ -3,6 +3,7 @@ pub mod FirstHit
 pub mod Cut
 pub mod Listing
 pub mod Adding
+pub mod Making
 pub mod Texts
 pub mod Places
 pub mod Given

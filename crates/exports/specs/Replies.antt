@@ -11,8 +11,8 @@ use Rattle.hits.specs.declared.FirstHit.{FirstHit}
 use Rattle.hits.specs.declared.FirstHit.the-variants.{At, Nothing, Refused as Refused·first}
 use Rattle.hits.specs.declared.Listing.{Listing}
 use Rattle.hits.specs.declared.Listing.the-variants.{Done as Done·listing, More, Refused as Refused·listing}
-use Rattle.map.specs.declared.Added.{Added}
-use Rattle.map.specs.declared.Added.the-variants.{Done as Done·added, Refused as Refused·added}
+use Rattle.map.specs.declared.Mapped.{Mapped}
+use Rattle.map.specs.declared.Mapped.the-variants.{Done as Done·mapped, Refused as Refused·mapped}
 use Rattle.blanking.specs.declared.Blanking.{Blanking}
 use Rattle.blanking.specs.declared.Blanking.the-variants.{Done as Done·blanking, Refused as Refused·blanking}
 use Rattle.saved.specs.declared.Saved.{Saved}
@@ -25,7 +25,7 @@ use Rattle.text.specs.declared.Input.{Input}
 use Rattle.exports.specs.declared.StepsReply.{StepsReply}
 use Rattle.exports.specs.declared.FirstHitReply.{FirstHitReply}
 use Rattle.exports.specs.declared.ListingReply.{ListingReply}
-use Rattle.exports.specs.declared.AddedReply.{AddedReply}
+use Rattle.exports.specs.declared.MappedReply.{MappedReply}
 use Rattle.exports.specs.declared.BlankingReply.{BlankingReply}
 use Rattle.exports.specs.declared.RunReply.{RunReply}
 use Rattle.exports.specs.declared.TextReply.{TextReply}
@@ -54,9 +54,9 @@ tellListing (More n cell) = record { refusal = 0; more = 1; count = n; next = ce
 tellListing (Refused·listing reason place) = record { refusal = number reason; more = 0; count = 0; next = 0 }
 
 -- The map call: the refusal's number and its place.
-abbrev pub tellAdded : Added → AddedReply
-tellAdded Done·added = record { refusal = 0; place = 0 }
-tellAdded (Refused·added reason place) = record { refusal = number reason; place = tellPlace place }
+abbrev pub tellMapped : Mapped → MappedReply
+tellMapped Done·mapped = record { refusal = 0; place = 0 }
+tellMapped (Refused·mapped reason place) = record { refusal = number reason; place = tellPlace place }
 
 -- The blanking list: how many stretches were written.
 abbrev pub tellBlanking : Blanking → BlankingReply

@@ -6,7 +6,7 @@ use blanking::Blanking;
 use blanking::Guard;
 use hits::FirstHit;
 use hits::Listing;
-use map::Added;
+use map::Mapped;
 use saved::Loaded;
 use saved::Saved;
 use scope::Place;
@@ -21,12 +21,12 @@ ghost use mathlib.Core.Path.{_≡_};
 ghost use Rattle.scope.specs.Run.{runWith};
 ghost use Rattle.vectors.specs.Promise.{VectorsPromise};
 ghost use Rattle.hits.specs.Promise.{FirstHitPromise, ListingPromise};
-ghost use Rattle.map.specs.Promise.{MapPromise};
+ghost use Rattle.map.specs.Promise.{MakingPromise, AddingPromise};
 ghost use Rattle.blanking.specs.Promise.{BlankingPromise};
 ghost use Rattle.saved.specs.Promise.{SavingPromise, ReadingPromise};
 ghost use Rattle.text.specs.Promise.{TextPromise};
 ghost use Rattle.exports.specs.Promise.{Exported};
-ghost use Rattle.exports.specs.Replies.{tellPlace, tellSteps, tellFirst, tellListing, tellAdded, tellBlanking, tellSaved, tellLoaded, tellAnswer, tellTextPlace, tellText};
+ghost use Rattle.exports.specs.Replies.{tellPlace, tellSteps, tellFirst, tellListing, tellMapped, tellBlanking, tellSaved, tellLoaded, tellAnswer, tellTextPlace, tellText};
 
 // The step vectors.
 #[repr(C)]
@@ -63,9 +63,9 @@ pub struct ListingReply {
     pub next: u64,
 }
 
-// What the map call came to.
+// What a map call came to.
 #[repr(C)]
-pub struct AddedReply {
+pub struct MappedReply {
     pub refusal: u8,
     // The place of the source at fault, counted from 1; 0 where the refusal concerns none.
     pub place: u64,
@@ -193,16 +193,16 @@ fn tell_listing(reply: Listing) -> ListingReply
     }
 }
 
-// What the map call came to, in numbers.
-fn tell_added(reply: Added) -> AddedReply
-    ensures { λ r. ⌜ r ≡ tellAdded reply ⌝ }
+// What a map call came to, in numbers.
+fn tell_mapped(reply: Mapped) -> MappedReply
+    ensures { λ r. ⌜ r ≡ tellMapped reply ⌝ }
 {
     match reply {
-        Added::Done => AddedReply {
+        Mapped::Done => MappedReply {
             refusal: 0,
             place: 0,
         },
-        Added::Refused(reason, place) => AddedReply {
+        Mapped::Refused(reason, place) => MappedReply {
             refusal: number_of(reason),
             place: tell_place(place),
         },
@@ -349,7 +349,25 @@ pub extern "C" fn zenithgong_list_hits(
     tell_listing(hits::list_hits(run, Source { period, phase }, RunCell(start), room))
 }
 
-// Public operation: `map::add_to_map` for the run with these four numbers, its reply in numbers.
+// Public operation: `map::make_map` for the run with these four numbers, its reply in numbers. The map starts clean.
+#[no_mangle]
+pub extern "C" fn zenithgong_make_map(
+    window: u32,
+    interval: u32,
+    first: u32,
+    last: u32,
+    periods: &[u32],
+    weights: &[u32],
+    phases: &[u32],
+    map: &mut [u8],
+) -> MappedReply
+    ensures { λ r. ⌜ Exported (λ reply. MakingPromise (runWith window interval first last) (now (periods .entry)) (now (weights .entry)) (now (phases .entry)) (now (map .entry)) reply (now (map .exit))) tellMapped r ⌝ }
+{
+    let run = run_with(window, interval, first, last);
+    tell_mapped(map::make_map(run, periods, weights, phases, map))
+}
+
+// Public operation: `map::add_to_map` for the run with these four numbers, its reply in numbers. The map is added to as it was lent.
 #[no_mangle]
 pub extern "C" fn zenithgong_add_to_map(
     window: u32,
@@ -360,11 +378,11 @@ pub extern "C" fn zenithgong_add_to_map(
     weights: &[u32],
     phases: &[u32],
     map: &mut [u8],
-) -> AddedReply
-    ensures { λ r. ⌜ Exported (λ reply. MapPromise (runWith window interval first last) (now (periods .entry)) (now (weights .entry)) (now (phases .entry)) (now (map .entry)) reply (now (map .exit))) tellAdded r ⌝ }
+) -> MappedReply
+    ensures { λ r. ⌜ Exported (λ reply. AddingPromise (runWith window interval first last) (now (periods .entry)) (now (weights .entry)) (now (phases .entry)) (now (map .entry)) reply (now (map .exit))) tellMapped r ⌝ }
 {
     let run = run_with(window, interval, first, last);
-    tell_added(map::add_to_map(run, periods, weights, phases, map))
+    tell_mapped(map::add_to_map(run, periods, weights, phases, map))
 }
 
 // Public operation: `blanking::list_stretches` for the run with these four numbers and the guard with these two offsets, its reply in

@@ -11,7 +11,7 @@ use native.Mathlib.Omega.{arith}
 use borrow.Author.Tests.{ne-eqb}
 use lib.Dec.{T as True, leb, ltb, eqb, lit<, ltb→lt}
 use lib.IntN.{ℤ, pos, negℤ, natAbs, _-ℤ_, _*ℤ_}
-use lib.ListN.{length, drop, replicate, drop-of-length-le}
+use lib.ListN.{length, drop, drop-of-length-le}
 use lib.Seq.{take-all}
 use lib.Signed.{leZ, ltZ}
 use Rattle.lattice.specs.Gcd.{IsGcd}
@@ -35,9 +35,9 @@ use Rattle.scope.proofs.Differs.{agrees, differs, same}
 use Rattle.saved.specs.File.{fileLength, bytesFor, fileOf, savingTests}
 use Rattle.saved.specs.Promise.{saysSaving, SavingPromise}
 use Rattle.saved.proofs.Promises.{refuse-saving, grant-saving}
-use Rattle.map.specs.declared.Added.the-variants.{Done as Done·map}
-use Rattle.map.specs.Promise.{MapPromise}
-use Rattle.map.proofs.Unique.{map-unique}
+use Rattle.map.specs.declared.Mapped.the-variants.{Done as Done·map}
+use Rattle.map.specs.Promise.{MakingPromise}
+use Rattle.map.proofs.Unique.{call-unique, whatever-held}
 use Rattle.hits.specs.declared.Listing.{Listing}
 use Rattle.hits.specs.declared.Listing.the-variants.{Done, More, Refused}
 use Rattle.hits.specs.Promise.{firstHitTests, listingTests, first as first-of, Listed, saysListing, listed, written}
@@ -150,10 +150,11 @@ module _ (p r I first last : ℕ) (figure : List (ℤ × ℕ)) (cells : List ℕ
 
 -- ---- maps
 
--- an outcome that fits is the only one
-pub map-row : (run : Run) (periods weights phases figure : List ℕ) → MapPromise run periods weights phases (replicate (length figure) 0) Done·map figure → Holds (mapped run periods weights phases figure)
-map-row run periods weights phases figure h answer after =
-    (λ k. map-unique k h, λ e. subst₂ (MapPromise run periods weights phases (replicate (length figure) 0)) (sym (e .0)) (sym (e .1)) h)
+-- an outcome that fits one map lent, as the figure's own cells, fits every other and is the only one
+pub map-row : (run : Run) (periods weights phases figure : List ℕ) → MakingPromise run periods weights phases figure Done·map figure → Holds (mapped run periods weights phases figure)
+map-row run periods weights phases figure h map e answer after =
+    let fits = whatever-held h (sym e) in
+    (λ k. call-unique k fits, λ e. subst₂ (MakingPromise run periods weights phases map) (sym (e .0)) (sym (e .1)) fits)
 
 -- ---- saved maps
 

@@ -8,8 +8,8 @@ use Rattle.scope.specs.Run.{linesOf, cellsOf, cellOf, lineOf, offsetOf}
 use Rattle.scope.specs.Hit.{instant, isHit, hitsAmong, hitsFrom}
 use Rattle.scope.specs.Refusal.{complaint, windowTests, lineTests, periodTests, weightTests, phaseTests, sourceTests, runTests}
 use Rattle.sources.specs.Entry.{entriesOf, entryTests, lengthTests, listTests, sourceListsTests}
-use Rattle.map.specs.Sum.{raised}
-use Rattle.map.specs.Promise.{mapTests, weightAt, added}
+use Rattle.map.specs.Sum.{summed}
+use Rattle.map.specs.Promise.{mapTests, weightAt, made}
 use Rattle.vectors.specs.Promise.{vectorsTests}
 use Rattle.rooms.specs.Lists.{zeros}
 use Rattle.fileblocks.specs.FileBlock.{four, fourAt, weighted, checkOf, filled, fileBlockOf}
@@ -24,7 +24,7 @@ All (figure ∷ figures) = Holds figure × All figures
 
 -- each row, by computing its conditions: the tests, the divisions, the list of hits, the cells of the map, the bytes of the file
 rows : All table
-unfolding vectorsTests mapTests runTests windowTests lineTests periodTests weightTests phaseTests sourceTests entryTests lengthTests listTests sourceListsTests entriesOf complaint hitsFrom hitsAmong added raised weightAt isHit instant lineOf offsetOf cellOf cellsOf linesOf fileLength fileBlocksFor bytesFor fileOf heading laterFileBlocks firstJoined fileBlockOf filled zeros four fourAt checkOf weighted
+unfolding vectorsTests mapTests runTests windowTests lineTests periodTests weightTests phaseTests sourceTests entryTests lengthTests listTests sourceListsTests entriesOf complaint hitsFrom hitsAmong made summed weightAt isHit instant lineOf offsetOf cellOf cellsOf linesOf fileLength fileBlocksFor bytesFor fileOf heading laterFileBlocks firstJoined fileBlockOf filled zeros four fourAt checkOf weighted
 rows = (
   vectors-row 7 3 4 _ (is-pair 7 3 4 _ _ _ _ refl refl tt tt tt tt tt tt tt refl),
   (

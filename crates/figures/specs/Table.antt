@@ -5,7 +5,7 @@ use mathlib.Core.Path.{_≡_}
 use mathlib.Core.List.{List, [], _∷_, map}
 use mathlib.Core.Logic.{_↔_}
 use lib.IntN.{ℤ, pos}
-use lib.ListN.{length, replicate}
+use lib.ListN.{length}
 use Rattle.scope.specs.declared.Run.{Run}
 use Rattle.scope.specs.Run.{runWith, cellOf}
 use Rattle.scope.specs.declared.Place.the-variants.{Nowhere}
@@ -13,9 +13,9 @@ use Rattle.scope.specs.Reply.{Said, refused, answered}
 use Rattle.vectors.specs.declared.Steps.{Steps}
 use Rattle.vectors.specs.Vectors.{Values, pair, single}
 use Rattle.vectors.specs.Promise.{saysVectors, VectorsPromise}
-use Rattle.map.specs.declared.Added.{Added}
-use Rattle.map.specs.declared.Added.the-variants.{Done as Done·map}
-use Rattle.map.specs.Promise.{MapPromise}
+use Rattle.map.specs.declared.Mapped.{Mapped}
+use Rattle.map.specs.declared.Mapped.the-variants.{Done as Done·map}
+use Rattle.map.specs.Promise.{MakingPromise}
 use Rattle.saved.specs.declared.Saved.{Saved}
 use Rattle.saved.specs.declared.Saved.the-variants.{Done as Done·saved}
 use Rattle.fileblocks.specs.FileBlock.{fileBlockBytes, checkAt, fourAt}
@@ -30,14 +30,14 @@ pub data Figure : Type 0 where
   vectors : (p r I : ℕ) → Said Values → Figure
   -- "p, r, I .. Hits on lines 1-11 as offset, line": of a period, a remainder, a window, and the first and last line, at phase 0
   hits : (p r I first last : ℕ) → List (ℤ × ℕ) → Figure
-  -- "The map above": of a run, the periods, weights and phases listed, and the cells of the map, which was clear before
+  -- "The map above": of a run, the periods, weights and phases listed, and the cells of the map that the plain call makes (E6)
   mapped : Run → (periods weights phases cells : List ℕ) → Figure
   -- "saved, it is 1,024 bytes with checks 294 and 22,327": of a run and its map, the length and the checks of the two blocks
   saved : Run → (cells : List ℕ) → (size first second : ℕ) → Figure
 
 -- A figure holds if the promise at the row's inputs admits an outcome exactly if it is the row's figure; of the saved map: done
 -- exactly if the room has the row's length, and then with these checks, and some outcome is admitted. The hits are those of
--- every interval T with T mod p = r.
+-- every interval T with T mod p = r, the map is that of every lent one with as many cells.
 abbrev pub Holds : Figure → Type 0
 Holds (vectors p r I figure) = (steps : Steps) → VectorsPromise p r I steps ↔ (saysVectors steps ≡ figure)
 Holds (hits p r I first last figure) =
@@ -45,8 +45,8 @@ Holds (hits p r I first last figure) =
     ListingPromise (runWith I T first last) (record { period = p; phase = 0 }) (record { 0 = 0 }) room reply after ↔
     ((reply ≡ Done (length figure)) × (map pos after ≡ map (λ hit. cellOf (runWith I T first last) (hit .0) (hit .1)) figure))
 Holds (mapped run periods weights phases figure) =
-    (answer : Added) (after : List ℕ) →
-    MapPromise run periods weights phases (replicate (length figure) 0) answer after ↔ ((answer ≡ Done·map) × (after ≡ figure))
+    (map : List ℕ) → length map ≡ length figure → (answer : Mapped) (after : List ℕ) →
+    MakingPromise run periods weights phases map answer after ↔ ((answer ≡ Done·map) × (after ≡ figure))
 Holds (saved run cells size first second) =
     (room : List ℕ) →
     ((answer : Saved) (after : List ℕ) → SavingPromise run cells room answer after →

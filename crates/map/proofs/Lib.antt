@@ -1,5 +1,6 @@
 pub mod Raised
 pub mod Entries
+pub mod Made
 pub mod Rows
 pub mod Unique
 pub mod Walked

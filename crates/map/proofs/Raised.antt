@@ -1,5 +1,6 @@
 -- Laws of sums that stop at a ceiling, over any ceiling: stopping in between changes nothing, and a list of cells may be
--- raised part by part. `RaisedIn`, and `RaisedBelow` from cell 0 on, is what a loop over cell numbers keeps. Assumes nothing.
+-- raised part by part. `RaisedIn`, and `RaisedBelow` from cell 0 on, is what a loop over cell numbers keeps; `RaisedFrom`, what one keeps
+-- whose cells do not start from what they were. Assumes nothing.
 use Prim.Native.Nat.{ℕ, zero, suc, _+_, _-_, _≤_, _<_}
 use native.Mathlib.Nat.{add-zero, add-suc, zero-add, suc-add}
 use native.Mathlib.Omega.{arith}
@@ -11,7 +12,7 @@ use lib.Seq.{ext-getD, getD-set-same, getD-set-other, getD-take, getD-drop, getD
 use borrow.Rule.Slice.PartMut.{putMid, same-len-mid}
 use Rattle.scope.specs.Run.{UpTo}
 use Rattle.map.specs.Sum.{capped, raised}
-use Rattle.map.specs.Inner.{RaisedIn}
+use Rattle.map.specs.Inner.{RaisedFrom, RaisedIn}
 
 -- a sum stopped in between
 capped-again : (c a b : ℕ) → capped c (capped c a + b) ≡ capped c (a + b)
@@ -69,8 +70,8 @@ abbrev pub RaisedBelow : ℕ → (ℕ → ℕ) → List ℕ → ℕ → List ℕ
 RaisedBelow c gain old x cells = RaisedIn c gain old 0 x cells
 
 -- at first none is raised
-pub starts : (c : ℕ) (gain : ℕ → ℕ) (old : List ℕ) (x : ℕ) → RaisedIn c gain old x x old
-starts c gain old x = record { as-long = refl; below = λ i h. refl; within = λ i h k. absurd (omega arith); above = λ i h. refl }
+pub starts : (c : ℕ) (gain : ℕ → ℕ) {start : List ℕ} (old : List ℕ) (x : ℕ) → RaisedFrom c gain start old x x old
+starts c gain {start} old x = record { as-long = refl; below = λ i h. refl; within = λ i h k. absurd (omega arith); above = λ i h. refl }
 
 -- ---- a part of a list, put back changed: the cells before it, in it and after it
 
@@ -142,28 +143,41 @@ module _ {c : ℕ} {gain : ℕ → ℕ} {old : List ℕ} {from x : ℕ} {cells :
         above = λ i k. then .above i k ∙ so-far .above i (omega arith);
       }
 
-module _ {c : ℕ} {gain : ℕ → ℕ} {old : List ℕ} {x : ℕ} {cells : List ℕ} (so-far : RaisedBelow c gain old x cells) where
-  -- past the last cell all is done
-  pub ends : length old ≤ x → cells ≡ raised c gain 0 old
-  ends h =
+module _ {c : ℕ} {gain : ℕ → ℕ} {start old : List ℕ} {x : ℕ} {cells : List ℕ} (so-far : RaisedFrom c gain start old 0 x cells) where
+  -- a part from x on is as it was
+  pub untouched : (k : ℕ) → x + k ≤ length old → take k (drop x cells) ≡ take k (drop x old)
+  untouched k fits =
       let l = so-far .as-long in
-      let k = raised-length c gain 0 old in
-      ext-getD 0 cells (raised c gain 0 old) (omega arith) λ i inside. so-far .within i (omega arith) (omega arith) (omega arith) ∙ sym (raised-getD c gain 0 old i (omega arith) ∙ ap (λ n. capped c (getD old i 0 + gain n)) (zero-add i))
+      let here = length-take-le k (drop x cells) (rw (length-drop x cells) (omega arith)) in
+      let there = length-take-le k (drop x old) (rw (length-drop x old) (omega arith)) in
+      ext-getD 0 _ _ (here ∙ sym there) λ i inside.
+      getD-take k (drop x cells) i 0 (omega arith)
+      ∙ getD-drop x cells i 0
+      ∙ so-far .above (x + i) (omega arith)
+      ∙ sym (getD-take k (drop x old) i 0 (omega arith) ∙ getD-drop x old i 0)
+
+  -- past the last cell all is done
+  pub ends-from : length start ≡ length old → length old ≤ x → cells ≡ raised c gain 0 start
+  ends-from as-many h =
+      let l = so-far .as-long in
+      let k = raised-length c gain 0 start in
+      ext-getD 0 cells (raised c gain 0 start) (omega arith) λ i inside. so-far .within i (omega arith) (omega arith) (omega arith) ∙ sym (raised-getD c gain 0 start i (omega arith) ∙ ap (λ n. capped c (getD start i 0 + gain n)) (zero-add i))
 
   -- a part from x to y is raised by itself
-  pub patch : {part : List ℕ} (own : ℕ → ℕ) {k y : ℕ} → x + k ≡ y → y ≤ length old → part ≡ raised c own 0 (take k (drop x cells)) → ((i : ℕ) → i < k → own i ≡ gain (i + x)) → RaisedBelow c gain old y (putMid x k cells part)
-  patch {part} own {k} {y} ends-at fits e same =
+  pub patch-from : {part : List ℕ} (own : ℕ → ℕ) {k y : ℕ} → length start ≡ length old → x + k ≡ y → y ≤ length old → part ≡ raised c own 0 (take k (drop x start)) → ((i : ℕ) → i < k → own i ≡ gain (i + x)) → RaisedFrom c gain start old 0 y (putMid x k cells part)
+  patch-from {part} own {k} {y} as-many ends-at fits e same =
       let l = so-far .as-long in
       let mid : length (take k (drop x cells)) ≡ k = length-take-le k (drop x cells) (rw (length-drop x cells) (omega arith)) in
-      let long : length part ≡ k = ap length e ∙ raised-length c own 0 (take k (drop x cells)) ∙ mid in
+      let from : length (take k (drop x start)) ≡ k = length-take-le k (drop x start) (rw (length-drop x start) (omega arith)) in
+      let long : length part ≡ k = ap length e ∙ raised-length c own 0 (take k (drop x start)) ∙ from in
       let room : x + k ≤ length cells = omega arith in
-      let inside : (j : ℕ) → j < k → getD (putMid x k cells part) (x + j) 0 ≡ capped c (getD old (x + j) 0 + gain (x + j)) =
+      let inside : (j : ℕ) → j < k → getD (putMid x k cells part) (x + j) 0 ≡ capped c (getD start (x + j) 0 + gain (x + j)) =
       λ j h.
       put-in cells part x k room long j h
       ∙ ap (λ (m : List ℕ). getD m j 0) e
-      ∙ raised-getD c own 0 (take k (drop x cells)) j (omega arith)
+      ∙ raised-getD c own 0 (take k (drop x start)) j (omega arith)
       ∙ ap₂ (λ m n. capped c (m + n))
-      (getD-take k (drop x cells) j 0 h ∙ getD-drop x cells j 0 ∙ so-far .above (x + j) (omega arith))
+      (getD-take k (drop x start) j 0 h ∙ getD-drop x start j 0)
       (ap own (zero-add j) ∙ same j h ∙ ap gain (omega arith)) in
       record {
         as-long = same-len-mid x k cells part (long ∙ sym mid) ∙ so-far .as-long;
@@ -172,9 +186,17 @@ module _ {c : ℕ} {gain : ℕ → ℕ} {old : List ℕ} {x : ℕ} {cells : List
             (λ before. put-before cells part x k room long i before ∙ so-far .within i low before inside-old)
             (λ from.
             let z : i ≡ x + (i - x) = omega arith in
-            subst (λ n. getD (putMid x k cells part) n 0 ≡ capped c (getD old n 0 + gain n)) (sym z) (inside (i - x) (omega arith)))
+            subst (λ n. getD (putMid x k cells part) n 0 ≡ capped c (getD start n 0 + gain n)) (sym z) (inside (i - x) (omega arith)))
             (split i x);
         above = λ i h.
             let z : i ≡ x + (k + (i - y)) = omega arith in
             subst (λ n. getD (putMid x k cells part) n 0 ≡ getD old n 0) (sym z) (put-after cells part x k room long (i - y) ∙ so-far .above _ (omega arith));
       }
+
+-- the same of cells that start from what they were
+module _ {c : ℕ} {gain : ℕ → ℕ} {old : List ℕ} {x : ℕ} {cells : List ℕ} (so-far : RaisedBelow c gain old x cells) where
+  pub ends : length old ≤ x → cells ≡ raised c gain 0 old
+  ends h = ends-from so-far refl h
+
+  pub patch : {part : List ℕ} (own : ℕ → ℕ) {k y : ℕ} → x + k ≡ y → y ≤ length old → part ≡ raised c own 0 (take k (drop x cells)) → ((i : ℕ) → i < k → own i ≡ gain (i + x)) → RaisedBelow c gain old y (putMid x k cells part)
+  patch own {k} ends-at fits e same = patch-from so-far own refl ends-at fits (e ∙ ap (raised c own 0) (untouched so-far k (omega arith))) same

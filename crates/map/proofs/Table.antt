@@ -1,4 +1,4 @@
--- The tests of the map call say what its table says, row by row. Assumes nothing.
+-- The tests of the map calls say what their table says, row by row. Assumes nothing.
 use Prim.Native.Nat.{ℕ}
 use mathlib.Core.List.{List}
 use lib.ListN.{length}

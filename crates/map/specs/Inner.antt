@@ -1,4 +1,4 @@
--- What the inner steps of the map call speak of besides 01's words.
+-- What the inner steps of the map calls speak of besides 01's words.
 use Prim.Native.Nat.{ℕ, _+_, _%_, _≤_, _<_, min}
 use mathlib.Core.Path.{_≡_}
 use mathlib.Core.Bool.{true, false, cond}
@@ -7,6 +7,7 @@ use mathlib.Core.List.{List, [], _∷_}
 use lib.Dec.{ltb, leb, eqb}
 use lib.ListN.{length, getD}
 use lib.Signed.{_<ℤ_}
+use Rattle.rooms.specs.Lists.{zeros}
 use Rattle.scope.specs.declared.Run.{Run}
 use Rattle.scope.specs.declared.Source.{Source}
 use Rattle.scope.specs.Run.{ValidRun, ValidSource, ceiling, cellsOf, offsetOf}
@@ -17,6 +18,8 @@ use Rattle.sources.specs.Lists.{OneLength}
 use Rattle.walk.specs.declared.Walk.{Walk}
 use Rattle.walk.specs.declared.LineHit.{LineHit}
 use Rattle.walk.specs.Inner.{Leads, Stands}
+use Rattle.map.specs.declared.Start.{Start}
+use Rattle.map.specs.declared.Start.the-variants.{Clean, AsLent}
 use Rattle.map.specs.Sum.{capped}
 use Rattle.map.specs.Promise.{weightAt}
 
@@ -26,6 +29,11 @@ pub record ValidCall (run : Run) (periods weights phases map : List ℕ) : Type 
   pub equal : OneLength periods weights phases
   pub sound : complaint (listTests ceiling 1 (entriesOf periods weights phases)) ≡ none
   pub whole : length map ≡ cellsOf run
+
+-- The cells that a call starts from: zeros, or the cells as they were lent.
+abbrev pub startOf : Start → List ℕ → List ℕ
+startOf Clean map = zeros (length map)
+startOf AsLent map = map
 
 -- The entries whose period is at least `low` and below `high`.
 unfoldable pub chosen : ℕ → ℕ → List Entry → List Entry
@@ -47,12 +55,16 @@ shortestOf (period ∷ periods) = min period (shortestOf periods)
 abbrev pub only : Source → ℕ → List Entry
 only source weight = record { source = source; weight = weight } ∷ []
 
--- The cells with numbers from x to before y have got what they gain, and all others are as they were.
-pub record RaisedIn (c : ℕ) (gain : ℕ → ℕ) (old : List ℕ) (x y : ℕ) (cells : List ℕ) : Type 0 where
+-- The cells with numbers from x to before y have what they gain on top of what they start from, and all others are as they were.
+pub record RaisedFrom (c : ℕ) (gain : ℕ → ℕ) (start old : List ℕ) (x y : ℕ) (cells : List ℕ) : Type 0 where
   pub as-long : length cells ≡ length old
   pub below : (i : ℕ) → i < x → getD cells i 0 ≡ getD old i 0
-  pub within : (i : ℕ) → x ≤ i → i < y → i < length old → getD cells i 0 ≡ capped c (getD old i 0 + gain i)
+  pub within : (i : ℕ) → x ≤ i → i < y → i < length old → getD cells i 0 ≡ capped c (getD start i 0 + gain i)
   pub above : (i : ℕ) → y ≤ i → getD cells i 0 ≡ getD old i 0
+
+-- The same where they start from what they were.
+abbrev pub RaisedIn : ℕ → (ℕ → ℕ) → List ℕ → (x y : ℕ) → List ℕ → Type 0
+RaisedIn c gain old x y cells = RaisedFrom c gain old old x y cells
 
 -- A walk over the map of a run, of a source with at most one hit on a line, at a hit or past the run.
 pub record Crosses (run : Run) (source : Source) (walk : Walk) (at : LineHit) (map : List ℕ) : Type 0 where

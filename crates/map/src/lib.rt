@@ -1,5 +1,5 @@
 // The map: every cell's sum of the weights of the sources that hit it, up to the ceiling.
-// Every function is proved. `add_to_map` is the one public operation here, and it asks nothing of its caller.
+// Every function is proved. `make_map` and `add_to_map` are the public operations here, and they ask nothing of their caller.
 use scope::BlockCell;
 use scope::CEILING;
 use scope::Place;
@@ -14,18 +14,27 @@ ghost use mathlib.Core.List.{[], _∷_};
 ghost use Prim.Native.Nat.{min, _+_, _-_, _≤_, _<_, _^_};
 ghost use lib.ListN.{length};
 ghost use Rattle.scope.specs.Run.{ValidRun, ValidSource, ceiling, cellsOf};
-ghost use Rattle.scope.specs.Inner.{IsBlock};
+ghost use Rattle.scope.specs.Refusal.{complaint};
+ghost use Rattle.scope.specs.Inner.{IsBlock, verdict};
 ghost use Rattle.sources.specs.Entry.{entriesOf};
 ghost use Rattle.map.specs.Sum.{capped, raised};
-ghost use Rattle.map.specs.Promise.{added, MapPromise};
-ghost use Rattle.map.specs.Inner.{ValidCall, Crossing, AddsLeft, chosen, spaced, shortestOf};
+ghost use Rattle.map.specs.Promise.{mapTests, added, MapCallAt, MakingPromise, AddingPromise};
+ghost use Rattle.map.specs.Inner.{ValidCall, Crossing, AddsLeft, startOf, chosen, spaced, shortestOf};
 
-// The reply of the map call.
-pub enum Added {
+// The reply of a map call.
+pub enum Mapped {
     // Every cell holds its new value.
     Done,
     // Why it is refused, and where; no cell was touched.
     Refused(Reason, Place),
+}
+
+// What the sources are added to.
+enum Start {
+    // A clean map, whatever the cells hold.
+    Clean,
+    // The map as it was lent.
+    AsLent,
 }
 
 // Maps longer than this are gone through in blocks by the sources with short periods.
@@ -156,6 +165,32 @@ fn add_chosen(
     }
 }
 
+// Clears the cells for a clean start, and leaves them for any other.
+fn prepare(start: Start, map: &mut [u8])
+    ensures { λ _. ⌜ now (map .exit) ≡ startOf start (now (map .entry)) ⌝ }
+{
+    if let Start::Clean = start {
+        rooms::clear(map);
+    }
+}
+
+// Adds the sources with period < high to what the map of a run starts from.
+fn add_below(
+    run: Run,
+    periods: &[u32],
+    weights: &[u32],
+    phases: &[u32],
+    high: u32,
+    start: Start,
+    map: &mut [u8],
+)
+    requires { ⌜ ValidCall run (now periods) (now weights) (now phases) (now map) ⌝ }
+    ensures { λ _. ⌜ now (map .exit) ≡ added ceiling run (chosen 0 high (entriesOf (now (periods .entry)) (now (weights .entry)) (now (phases .entry)))) (startOf start (now (map .entry))) ⌝ }
+{
+    prepare(start, map);
+    add_chosen(run, periods, weights, phases, 0, high, map);
+}
+
 // The block of a run that starts at a line and has so many lines, or as many as the run has from there on.
 fn block_from(run: Run, first: u32, lines: u32) -> Run
     requires { ⌜ ValidRun run × (run .first ≤ first) × (first ≤ run .last) × (1 ≤ lines) ⌝ }
@@ -174,7 +209,8 @@ fn block_from(run: Run, first: u32, lines: u32) -> Run
     }
 }
 
-// Adds the sources with period < high to the map of a run, one block of so many lines after the other.
+// Adds the sources with period < high to what the map of a run starts from, one block of so many lines after the other. A block is
+// cleared when its turn comes, so that it is still in the cache when the sources are added to it.
 fn add_blocks(
     run: Run,
     periods: &[u32],
@@ -182,24 +218,25 @@ fn add_blocks(
     phases: &[u32],
     high: u32,
     lines: u32,
+    start: Start,
     map: &mut [u8],
 )
     requires { ⌜ ValidCall run (now periods) (now weights) (now phases) (now map) × (1 ≤ lines) ⌝ }
-    ensures { λ _. ⌜ now (map .exit) ≡ added ceiling run (chosen 0 high (entriesOf (now (periods .entry)) (now (weights .entry)) (now (phases .entry)))) (now (map .entry)) ⌝ }
+    ensures { λ _. ⌜ now (map .exit) ≡ added ceiling run (chosen 0 high (entriesOf (now (periods .entry)) (now (weights .entry)) (now (phases .entry)))) (startOf start (now (map .entry))) ⌝ }
 {
     let mut first = run.first;
     while first <= run.last {
         let block = block_from(run, first, lines);
-        let start = BlockCell(0).in_run(run, block);
-        let end = BlockCell(scope::cells(block)).in_run(run, block);
-        add_chosen(
+        let from = BlockCell(0).in_run(run, block);
+        let to = BlockCell(scope::cells(block)).in_run(run, block);
+        add_below(
             block,
             periods,
             weights,
             phases,
-            0,
             high,
-            &mut map[start.0 as usize..end.0 as usize],
+            start,
+            &mut map[from.0 as usize..to.0 as usize],
         );
         first = block.last + 1;
     }
@@ -220,10 +257,11 @@ fn shortest(periods: &[u32]) -> u32
     least
 }
 
-// Adds all sources to the map of a run: in blocks those with short periods, where the map is long, and in one go the others.
-fn add_all(run: Run, periods: &[u32], weights: &[u32], phases: &[u32], map: &mut [u8])
+// Adds all sources to what the map of a run starts from: in blocks those with short periods, where the map is long, and in one go the
+// others.
+fn add_all(run: Run, periods: &[u32], weights: &[u32], phases: &[u32], start: Start, map: &mut [u8])
     requires { ⌜ ValidCall run (now periods) (now weights) (now phases) (now map) ⌝ }
-    ensures { λ _. ⌜ now (map .exit) ≡ added ceiling run (entriesOf (now (periods .entry)) (now (weights .entry)) (now (phases .entry))) (now (map .entry)) ⌝ }
+    ensures { λ _. ⌜ now (map .exit) ≡ added ceiling run (entriesOf (now (periods .entry)) (now (weights .entry)) (now (phases .entry))) (startOf start (now (map .entry))) ⌝ }
 {
     if LONG < map.len() {
         if shortest(periods) < SHORT {
@@ -234,37 +272,75 @@ fn add_all(run: Run, periods: &[u32], weights: &[u32], phases: &[u32], map: &mut
                 phases,
                 SHORT,
                 BLOCK / run.window,
+                start,
                 map,
             );
             add_chosen(run, periods, weights, phases, SHORT, PERIODS, map);
             return;
         }
     }
-    add_chosen(run, periods, weights, phases, 0, PERIODS, map);
+    add_below(run, periods, weights, phases, PERIODS, start, map);
 }
 
-// Public operation. Adds to every cell of a run's map the weights of all listed sources that hit it, up to the ceiling.
-// Refused, in this order: 1, 17, 18, 3 for the run, 10 for lists of unequal length, 4, 7 or 22 for the first source at fault, with its
-// place, 9 for a map not of the run's length. All of that is looked at before the first store.
+// What the table says of a map call: of the run first, then of the lists and each source, then of the map's length.
+fn judge(run: Run, periods: &[u32], weights: &[u32], phases: &[u32], map: &[u8]) -> Verdict
+    ensures { λ r. ⌜ r ≡ verdict (complaint (mapTests ceiling run (now (periods .entry)) (now (weights .entry)) (now (phases .entry)) (now (map .entry)))) ⌝ }
+{
+    if let Verdict::Refused(reason, place) = scope::judge_run(run) {
+        return Verdict::Refused(reason, place);
+    }
+    if let Verdict::Refused(reason, place) = sources::judge_lists(periods, weights, phases) {
+        return Verdict::Refused(reason, place);
+    }
+    if map.len() as u64 != scope::cells(run) {
+        return Verdict::Refused(Reason::Room, Place::Nowhere);
+    }
+    Verdict::Fine
+}
+
+// Both map calls: refused as `judge` says, before the first store, or else all sources are added to what the map starts from.
+fn map_call(
+    run: Run,
+    periods: &[u32],
+    weights: &[u32],
+    phases: &[u32],
+    start: Start,
+    map: &mut [u8],
+) -> Mapped
+    ensures { λ r. ⌜ MapCallAt ceiling run (now (periods .entry)) (now (weights .entry)) (now (phases .entry)) (now (map .entry)) (added ceiling run (entriesOf (now (periods .entry)) (now (weights .entry)) (now (phases .entry))) (startOf start (now (map .entry)))) r (now (map .exit)) ⌝ }
+{
+    if let Verdict::Refused(reason, place) = judge(run, periods, weights, phases, map) {
+        return Mapped::Refused(reason, place);
+    }
+    add_all(run, periods, weights, phases, start, map);
+    Mapped::Done
+}
+
+// Public operation, the plain map call. Makes the map of a run: every cell becomes the sum of the weights of all listed sources that hit
+// it, up to the ceiling, whatever it held. Refused, in this order: 1, 17, 18, 3 for the run, 10 for lists of unequal length, 4, 7 or 22 for
+// the first source at fault, with its place, 9 for a map not of the run's length; then the map is not cleared either.
+pub fn make_map(
+    run: Run,
+    periods: &[u32],
+    weights: &[u32],
+    phases: &[u32],
+    map: &mut [u8],
+) -> Mapped
+    ensures { λ r. ⌜ MakingPromise run (now (periods .entry)) (now (weights .entry)) (now (phases .entry)) (now (map .entry)) r (now (map .exit)) ⌝ }
+{
+    map_call(run, periods, weights, phases, Start::Clean, map)
+}
+
+// Public operation, the adding call. Adds onto a lent map of a run: every cell gains the weights of all listed sources that hit it, up to
+// the ceiling. Refused as the plain call is.
 pub fn add_to_map(
     run: Run,
     periods: &[u32],
     weights: &[u32],
     phases: &[u32],
     map: &mut [u8],
-) -> Added
-    ensures { λ r. ⌜ MapPromise run (now (periods .entry)) (now (weights .entry)) (now (phases .entry)) (now (map .entry)) r (now (map .exit)) ⌝ }
+) -> Mapped
+    ensures { λ r. ⌜ AddingPromise run (now (periods .entry)) (now (weights .entry)) (now (phases .entry)) (now (map .entry)) r (now (map .exit)) ⌝ }
 {
-    if let Verdict::Refused(reason, place) = scope::judge_run(run) {
-        return Added::Refused(reason, place);
-    }
-    if let Verdict::Refused(reason, place) = sources::judge_lists(periods, weights, phases) {
-        return Added::Refused(reason, place);
-    }
-    let cells = scope::cells(run);
-    if map.len() as u64 != cells {
-        return Added::Refused(Reason::Room, Place::Nowhere);
-    }
-    add_all(run, periods, weights, phases, map);
-    Added::Done
+    map_call(run, periods, weights, phases, Start::AsLent, map)
 }

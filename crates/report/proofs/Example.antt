@@ -12,8 +12,8 @@ use Rattle.scope.specs.Run.{runWith, linesOf, cellsOf, lineOf, offsetOf}
 use Rattle.scope.specs.Hit.{instant, isHit, hitsAmong, hitsFrom}
 use Rattle.scope.specs.Refusal.{complaint, windowTests, lineTests, runTests, periodTests, weightTests, phaseTests}
 use Rattle.sources.specs.Entry.{entryWith, entryTests, listTests}
-use Rattle.map.specs.Sum.{raised}
-use Rattle.map.specs.Promise.{weightAt, added}
+use Rattle.map.specs.Sum.{summed}
+use Rattle.map.specs.Promise.{weightAt, made}
 use Rattle.words.specs.Line.{fields, line}
 use Rattle.text.specs.Form.{withPhase, withoutPhase, srcLines, sourcesMeant, textOf, Content, Spells}
 use Rattle.text.specs.Promise.{textTests}
@@ -59,7 +59,7 @@ phased-spelled = record {
 
 -- what is printed of them
 reported : (reportOf (some example) ≡ exampleOutput) × (reportOf (some phased) ≡ phasedOutput)
-unfolding exampleOutput phasedOutput reportOf printed wholeReport runReport srcReport entryReport cellsReport mapReport endReport reportedMap cellReport above zeros line fields digits digitsWithin textTests runTests windowTests lineTests periodTests weightTests phaseTests entryTests listTests complaint added raised weightAt hitsFrom hitsAmong isHit instant lineOf offsetOf cellsOf linesOf
+unfolding exampleOutput phasedOutput reportOf printed wholeReport runReport srcReport entryReport cellsReport mapReport endReport reportedMap cellReport above zeros line fields digits digitsWithin textTests runTests windowTests lineTests periodTests weightTests phaseTests entryTests listTests complaint made summed weightAt hitsFrom hitsAmong isHit instant lineOf offsetOf cellsOf linesOf
 reported = (refl, refl)
 
 -- An output that fits an input which says this prints what is printed of it.

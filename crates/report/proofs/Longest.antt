@@ -11,16 +11,17 @@ use Rattle.decimal.specs.Digits.{largest, digits}
 use Rattle.decimal.proofs.Laws.{length-le}
 use Rattle.words.proofs.Writing.{line-long}
 use Rattle.scope.specs.declared.Run.{Run}
-use Rattle.rooms.specs.Lists.{UpTo, zeros}
+use Rattle.rooms.specs.Lists.{UpTo}
 use Rattle.scope.specs.Run.{ValidRun, ceiling, cellsOf}
 use Rattle.scope.specs.Hit.{hitsFrom}
 use Rattle.sources.specs.Entry.{Entry, entriesOf}
 use Rattle.words.specs.Line.{fields, line}
 use Rattle.text.specs.Form.{srcWord, runWord, runNumbers}
-use Rattle.map.proofs.Entries.{ValidEntries, valid-entries, added-length, added-within}
+use Rattle.map.proofs.Entries.{ValidEntries, valid-entries}
+use Rattle.map.proofs.Made.{made-length, made-within}
 use Rattle.report.specs.Report.{mapWord, endWord, runReport, entryReport, srcReport, cellReport, mapReport, above, endReport, reportedMap, cellsReport, wholeReport}
 use Rattle.report.specs.Inner.{ValidInput}
-use Rattle.rooms.proofs.Lists.{length-zeros, up-to}
+use Rattle.rooms.proofs.Lists.{up-to}
 use Rattle.report.proofs.Sources.{hits-few}
 
 -- ---- the sources
@@ -86,11 +87,11 @@ above-few (v ∷ cells) = go (eqb v 0) (above-few cells)
 
 map-long : (run : Run) (entries : List Entry) → length (reportedMap run entries) ≡ cellsOf run
 unfolding reportedMap
-map-long run entries = added-length ceiling run entries (zeros (cellsOf run)) ∙ length-zeros (cellsOf run)
+map-long run entries = made-length ceiling run entries
 
 map-within : (run : Run) (entries : List Entry) → UpTo ceiling (reportedMap run entries)
 unfolding reportedMap
-map-within run entries = added-within ceiling run entries (zeros (cellsOf run))
+map-within run entries = made-within ceiling run entries
 
 run-long : {run : Run} → ValidRun run → cellsOf run ≤ mostCells → length (runReport run) ≤ 59
 unfolding runReport

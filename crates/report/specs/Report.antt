@@ -5,7 +5,6 @@ use mathlib.Core.List.{List, [], _∷_, _++_}
 use mathlib.Core.Option.{Option}
 use lib.Dec.{eqb}
 use lib.ListN.{length}
-use Rattle.rooms.specs.Lists.{zeros}
 use Rattle.scope.specs.declared.Run.{Run}
 use Rattle.scope.specs.Run.{ceiling, cellsOf}
 use Rattle.scope.specs.Hit.{hitsFrom}
@@ -17,7 +16,7 @@ use Rattle.decimal.specs.Digits.{digits}
 use Rattle.words.specs.Line.{line}
 use Rattle.text.specs.Form.{runWord, srcWord, runNumbers, Content}
 use Rattle.text.specs.Promise.{replyTo, handed}
-use Rattle.map.specs.Promise.{added}
+use Rattle.map.specs.Promise.{made}
 
 -- The word `map`.
 abbrev pub mapWord : List ℕ
@@ -72,9 +71,9 @@ above (value ∷ cells) = cond (eqb value 0) 0 1 + above cells
 unfoldable pub endReport : List ℕ → List ℕ
 endReport cells = line endWord (above cells ∷ [])
 
--- "from a cleared map": the map of the run and its sources.
+-- "from a cleared map": the map of the run and its sources, as the plain call makes it (E6).
 unfoldable pub reportedMap : Run → List Entry → List ℕ
-reportedMap run entries = added ceiling run entries (zeros (cellsOf run))
+reportedMap run entries = made ceiling run entries
 
 -- Its lines, and the line that counts them.
 unfoldable pub cellsReport : Run → List Entry → List ℕ

@@ -92,10 +92,8 @@ fn write_cells(room: &mut [u8], at: usize, map: &[u8]) -> usize
     words::write_line(room, next, b"end", &numbers)
 }
 
-// Cells for the longest run that a text may have, with nothing in them.
-fn cleared() -> [u8; CELLS]
-    ensures { λ r. ⌜ r ≡ zeros mostCells ⌝ }
-{
+// Cells for the longest run that a text may have.
+fn cell_room() -> [u8; CELLS] {
     [0; CELLS]
 }
 
@@ -181,7 +179,7 @@ fn write_run(room: &mut [u8], at: usize, run: Run) -> usize
     words::write_line(room, at, b"run", &numbers)
 }
 
-// Works the map of a run out in cleared cells, as many as the run has, and writes it.
+// Makes the map of a run in cells of any values, as many as the run has, and writes it.
 fn write_map_of(
     room: &mut [u8],
     at: usize,
@@ -192,12 +190,12 @@ fn write_map_of(
     map: &mut [u8],
 ) -> usize
     requires { ⌜ ValidInput run (now periods) (now weights) (now phases) ⌝ }
-    requires { ⌜ now map ≡ zeros (cellsOf run) ⌝ }
+    requires { ⌜ length (now map) ≡ cellsOf run ⌝ }
     requires { ⌜ at + length (cellsReport run (entriesOf (now periods) (now weights) (now phases))) ≤ length (now room) ⌝ }
     ensures { λ r. ⌜ Written (now (room .entry)) at (cellsReport run (entriesOf (now (periods .entry)) (now (weights .entry)) (now (phases .entry)))) r (now (room .exit)) ⌝ }
     ensures { λ _. ⌜ now (map .exit) ≡ reportedMap run (entriesOf (now (periods .entry)) (now (weights .entry)) (now (phases .entry))) ⌝ }
 {
-    map::add_to_map(run, periods, weights, phases, map);
+    map::make_map(run, periods, weights, phases, map);
     write_cells(room, at, map)
 }
 
@@ -215,7 +213,7 @@ fn write_report(
 {
     let after_run = write_run(room, 0, run);
     let after_sources = write_sources(room, after_run, run, periods, weights, phases);
-    let mut map = cleared();
+    let mut map = cell_room();
     let cells = scope::cells(run) as usize;
     write_map_of(
         room,

@@ -48,7 +48,7 @@ take-zeros zero n h = refl
 take-zeros (suc k) zero h = absurd (omega arith)
 take-zeros (suc k) (suc n) h = ap (λ l. 0 ∷ l) (take-zeros k n (omega arith))
 
-drop-zeros : (k n : ℕ) → drop k (zeros n) ≡ zeros (n - k)
+pub drop-zeros : (k n : ℕ) → drop k (zeros n) ≡ zeros (n - k)
 unfolding zeros
 drop-zeros zero n = let e : n ≡ n - 0 = omega arith in ap zeros e
 drop-zeros (suc k) zero = let e : 0 ≡ 0 - suc k = omega arith in ap zeros e

@@ -31,10 +31,10 @@ pub fn larger(a: u64, b: u64) -> u64
 pub fn clear(room: &mut [u8])
     ensures { λ _. ⌜ now (room .exit) ≡ zeros (length (now (room .entry))) ⌝ }
 {
-    let mut i = 0;
-    while i < room.len() {
-        room[i] = 0;
-        i += 1;
+    let mut at = 0;
+    while at < room.len() {
+        room[at] = 0;
+        at += 1;
     }
 }
 

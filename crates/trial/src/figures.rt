@@ -5,6 +5,7 @@ use crate::files;
 use crate::listing;
 use crate::listing::NO_CELL;
 use crate::mapping;
+use crate::mapping::MapCall;
 use crate::reports;
 use crate::texts;
 use scope::Run;
@@ -102,7 +103,17 @@ pub fn try_last_cell(ledger: &mut [u64]) {
     );
 }
 
-// Tries a run with these lines and an interval of 0 in each of the seven calls with a run besides the blanking list, which crate
+// Tries a run in the four calls with a map, with sources at fault where there are any: each is to refuse so.
+fn try_map_lines(ledger: &mut [u64], line: usize, refusal: Refusal, run: Run) {
+    let made = mapping::refused(MapCall::Make, refusal, run, [7, 0], [256, 0], [7, 0], 20);
+    let added = mapping::refused(MapCall::Add, refusal, run, [7, 0], [256, 0], [7, 0], 20);
+    tally::count(ledger, line, made);
+    tally::count(ledger, line, added);
+    tally::count(ledger, line, files::save_says(refusal, run));
+    tally::count(ledger, line, files::read_says(refusal, run));
+}
+
+// Tries a run with these lines and an interval of 0 in each of the eight calls with a run besides the blanking list, which crate
 // trial_blanking tries, with sources at fault where there are any: each is to refuse with this number. The text is that of the run
 // alone, and what is to be printed of it is given.
 fn try_lines(
@@ -117,12 +128,9 @@ fn try_lines(
     let run = run_of(0, first, last);
     let refusal = plain(number);
     let source = unphased(0);
-    let mapped = mapping::refused(refusal, run, [7, 0], [256, 0], [7, 0], 20);
     tally::count(ledger, line, listing::first_says(refusal, run, source, 0));
     tally::count(ledger, line, listing::refused(refusal, run, source, 0, 8));
-    tally::count(ledger, line, mapped);
-    tally::count(ledger, line, files::save_says(refusal, run));
-    tally::count(ledger, line, files::read_says(refusal, run));
+    try_map_lines(ledger, line, refusal, run);
     tally::count(ledger, line, texts::refused(text, refusal));
     tally::count(ledger, line, reports::reports(text, printed));
 }
@@ -165,17 +173,22 @@ fn try_text(ledger: &mut [u64]) {
     );
 }
 
-// Sources at fault, in a text and in a map call with a map one cell short: a weight, with a phase beside it that is at fault too, and
-// a phase.
-pub fn try_places(ledger: &mut [u64]) {
+// Sources at fault, in a map call with a map one cell short: a weight, with a phase beside it that is at fault too, and a phase.
+fn try_map_places(ledger: &mut [u64], call: MapCall) {
     let run = run_of(10, 1, 5);
     let heavy = at_place(7, 2);
     let late = at_place(22, 2);
-    let weight = mapping::refused(heavy, run, [7, 3], [60, 256], [6, 3], 19);
-    let phase = mapping::refused(late, run, [7, 3], [60, 255], [6, 3], 19);
-    try_text(ledger);
+    let weight = mapping::refused(call, heavy, run, [7, 3], [60, 256], [6, 3], 19);
+    let phase = mapping::refused(call, late, run, [7, 3], [60, 255], [6, 3], 19);
     tally::count(ledger, tally::MAP_SOURCE, weight);
     tally::count(ledger, tally::MAP_SOURCE, phase);
+}
+
+// Sources at fault, in a text and in the map calls.
+pub fn try_places(ledger: &mut [u64]) {
+    try_text(ledger);
+    try_map_places(ledger, MapCall::Make);
+    try_map_places(ledger, MapCall::Add);
 }
 
 // Reports on sources with a phase: one beside a source without, and one with the largest phase there is.

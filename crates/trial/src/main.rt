@@ -1,16 +1,18 @@
-// The test program: 01's bench figures without a star, examples from line 0 and with phases, refusals with two faults at a time, and
-// random small runs, with a fault here and there and two at once, through every operation, against a walk over all cells, 01's layout of
+// The test program: 01's bench figures without a star, examples from line 0, with phases and of maps that start clean, refusals with two
+// faults at a time, and random small runs, with a fault here and there and two at once, through every operation, against a walk over all cells, 01's layout of
 // a file and the table of refusals. Each line that it prints says how many cases of a kind were tried, and how many of them were bad.
 // Every function is proved safe and ending; that none is bad is what the stored output holds the program to.
 mod figures;
 mod files;
 mod listing;
 mod mapping;
+mod nines;
 mod reports;
 mod steps;
 mod texts;
 mod turning;
 
+use mapping::MapCall;
 use scope::Source;
 use trying::draw;
 use trying::draw::Case;
@@ -58,12 +60,18 @@ fn try_hits(ledger: &mut [u64], case: Case, state: u64) {
     count_kinds(ledger, run.window, source, numbers::low32(remainder), block);
 }
 
-// The calls with a map, a file or a text.
+// The map calls.
 fn try_maps(ledger: &mut [u64], case: Case, state: u64) {
-    let map = mapping::map_agrees(ledger, case, state);
+    let made = mapping::map_agrees(MapCall::Make, ledger, case, state);
+    let added = mapping::map_agrees(MapCall::Add, ledger, case, state);
+    tally::count(ledger, tally::MADE, made);
+    tally::count(ledger, tally::ADDED, added);
+}
+
+// The calls with a file or a text.
+fn try_files(ledger: &mut [u64], case: Case, state: u64) {
     let file = files::reading_agrees(ledger, case, state);
     let text = texts::text_agrees(ledger, case, state);
-    tally::count(ledger, tally::MAP, map);
     tally::count(ledger, tally::SAVING, files::saving_agrees(case, state));
     tally::count(ledger, tally::READING, file);
     tally::count(ledger, tally::TEXT, text);
@@ -79,6 +87,7 @@ fn try_all(ledger: &mut [u64]) {
         state = numbers::next(state);
         try_hits(ledger, case, state);
         try_maps(ledger, case, state);
+        try_files(ledger, case, state);
         turns += 1;
     }
 }
@@ -94,6 +103,25 @@ fn try_figures(ledger: &mut [u64]) {
     figures::try_limits(ledger);
     figures::try_places(ledger);
     texts::try_long(ledger);
+}
+
+// Prints what was counted of maps of nines.
+fn print_nines(ledger: &[u64]) {
+    tally::print(
+        ledger,
+        tally::NO_SOURCES,
+        b"map of nines with no sources: made, zeros; added to, nines",
+    );
+    tally::print(
+        ledger,
+        tally::NO_WEIGHT,
+        b"map of nines with a weight of 0: refused 7 source 1, nines",
+    );
+    tally::print(
+        ledger,
+        tally::MADE_TWICE,
+        b"map of nines made twice with sources 7 60, 3 200",
+    );
 }
 
 // Prints what was counted of the figures.
@@ -137,17 +165,17 @@ fn print_refusals(ledger: &[u64]) {
     tally::print(
         ledger,
         tally::LINE_ORDER,
-        b"run 4 0 7 6 refused 17 by seven calls",
+        b"run 4 0 7 6 refused 17 by eight calls",
     );
     tally::print(
         ledger,
         tally::HIGH_ORDER,
-        b"run 4 0 16777219 16777218 refused 17 by seven calls",
+        b"run 4 0 16777219 16777218 refused 17 by eight calls",
     );
     tally::print(
         ledger,
         tally::LAST_LINE,
-        b"run 4 0 0 16777217 refused 18 by seven calls",
+        b"run 4 0 0 16777217 refused 18 by eight calls",
     );
     tally::print(
         ledger,
@@ -176,7 +204,8 @@ fn print_calls(ledger: &[u64]) {
         tally::BLOCK,
         b"first hits of a block, turned into the run's cell",
     );
-    tally::print(ledger, tally::MAP, b"maps");
+    tally::print(ledger, tally::MADE, b"maps made");
+    tally::print(ledger, tally::ADDED, b"maps added to");
     tally::print(ledger, tally::SAVING, b"saved maps");
     tally::print(
         ledger,
@@ -212,12 +241,14 @@ fn print_kinds(ledger: &[u64]) {
     );
 }
 
-// Tries the figures, then all random cases, and prints the counts.
+// Tries the figures, maps of nines, then all random cases, and prints the counts.
 fn main() {
     let mut ledger = tally::ledger();
     try_figures(&mut ledger);
+    nines::try_nines(&mut ledger);
     try_all(&mut ledger);
     print_figures(&ledger);
+    print_nines(&ledger);
     print_refusals(&ledger);
     print_calls(&ledger);
     print_kinds(&ledger);

@@ -1,5 +1,5 @@
-// The map, compared with the walk over all cells.
-use map::Added;
+// The two map calls, compared with the walk over all cells.
+use map::Mapped;
 use scope::Run;
 use trying::draw;
 use trying::draw::Case;
@@ -11,15 +11,54 @@ use trying::reference::when;
 use trying::refusals;
 use trying::tally;
 
-// Whether a reply of the map call is a refusal, or for none is not.
-fn says(reply: Added, refusal: Refusal) -> bool {
-    match reply {
-        Added::Done => refusal.number == 0,
-        Added::Refused(reason, place) => refusals::same(reason, place, refusal),
+// Which of the two calls is made.
+pub enum MapCall {
+    // The plain one.
+    Make,
+    // The adding one.
+    Add,
+}
+
+// Makes the call.
+pub fn ask(
+    call: MapCall,
+    run: Run,
+    periods: &[u32],
+    weights: &[u32],
+    phases: &[u32],
+    map: &mut [u8],
+) -> Mapped {
+    match call {
+        MapCall::Make => map::make_map(run, periods, weights, phases, map),
+        MapCall::Add => map::add_to_map(run, periods, weights, phases, map),
     }
 }
 
-// The refusals of the map call, in 01's order with E1's line limits and E5's phases, for a map of so many cells.
+// Makes a map what it is to be after the call: from zeros for the plain one, whatever it held.
+fn expect(
+    call: MapCall,
+    refusal: Refusal,
+    run: Run,
+    periods: &[u32],
+    weights: &[u32],
+    phases: &[u32],
+    map: &mut [u8],
+) {
+    match call {
+        MapCall::Make => reference::expect_made(refusal, run, periods, weights, phases, map),
+        MapCall::Add => reference::expect_map(refusal, run, periods, weights, phases, map),
+    }
+}
+
+// Whether a reply of a map call is a refusal, or for none is not.
+pub fn says(reply: Mapped, refusal: Refusal) -> bool {
+    match reply {
+        Mapped::Done => refusal.number == 0,
+        Mapped::Refused(reason, place) => refusals::same(reason, place, refusal),
+    }
+}
+
+// The refusals of a map call, in 01's order with E1's line limits and E5's phases, for a map of so many cells.
 fn judge(run: Run, periods: &[u32], weights: &[u32], phases: &[u32], cells: usize) -> Refusal {
     let all = periods.len();
     let lists = when(all != weights.len() || all != phases.len(), 10);
@@ -31,7 +70,8 @@ fn judge(run: Run, periods: &[u32], weights: &[u32], phases: &[u32], cells: usiz
 }
 
 // Whether the call is refused so and leaves a map, or for no refusal makes of it what it is to be. Another map is the same before.
-fn adds_as(
+fn replies(
+    call: MapCall,
     refusal: Refusal,
     run: Run,
     periods: &[u32],
@@ -40,13 +80,14 @@ fn adds_as(
     map: &mut [u8],
     expected: &mut [u8],
 ) -> bool {
-    reference::expect_map(refusal, run, periods, weights, phases, expected);
-    let reply = map::add_to_map(run, periods, weights, phases, map);
+    expect(call, refusal, run, periods, weights, phases, expected);
+    let reply = ask(call, run, periods, weights, phases, map);
     says(reply, refusal) && numbers::same_bytes(map, expected)
 }
 
 // Whether the call with two sources and a map of so many cells, up to 20, is refused so and leaves the map.
 pub fn refused(
+    call: MapCall,
     refusal: Refusal,
     run: Run,
     periods: [u32; 2],
@@ -59,7 +100,8 @@ pub fn refused(
     if 20 < size {
         return false;
     }
-    adds_as(
+    replies(
+        call,
         refusal,
         run,
         &periods,
@@ -71,7 +113,8 @@ pub fn refused(
 }
 
 // Whether the call makes of a random map what it is to be, or refuses and leaves it.
-fn adds(
+fn agrees(
+    call: MapCall,
     ledger: &mut [u64],
     run: Run,
     periods: &[u32],
@@ -84,14 +127,15 @@ fn adds(
     let refusal = judge(run, periods, weights, phases, map.len());
     numbers::draw_bytes(map, state);
     numbers::draw_bytes(expected, state);
-    let fine = adds_as(refusal, run, periods, weights, phases, map, expected);
+    let fine = replies(call, refusal, run, periods, weights, phases, map, expected);
     tally::count_limits(ledger, run, refusal, fine);
     tally::count_sources(ledger, periods, weights, phases, refusal, fine);
     fine
 }
 
 // The same with room for so many cells.
-fn adds_in(
+fn agrees_in(
+    call: MapCall,
     ledger: &mut [u64],
     run: Run,
     periods: &[u32],
@@ -105,7 +149,8 @@ fn adds_in(
     if 1025 < size {
         return false;
     }
-    adds(
+    agrees(
+        call,
         ledger,
         run,
         periods,
@@ -117,15 +162,16 @@ fn adds_in(
     )
 }
 
-// Whether the map of a case with up to five sources, with a fault here and there, is as it is to be.
-pub fn map_agrees(ledger: &mut [u64], case: Case, state: u64) -> bool {
+// Whether the call with the map of a case and up to five sources, with a fault here and there, does as it is to do.
+pub fn map_agrees(call: MapCall, ledger: &mut [u64], case: Case, state: u64) -> bool {
     let mut periods = [0u32; 6];
     let mut weights = [0u32; 6];
     let mut phases = [0u32; 6];
     let count = numbers::below(state, 6) as usize;
     let seldom = draw::seldom(40, state >> 40);
     draw::draw_sources(&mut periods, &mut weights, &mut phases, case, state, seldom);
-    adds_in(
+    agrees_in(
+        call,
         ledger,
         draw::spoilt_run(case.run, state),
         numbers::first(&periods, count),

@@ -1,6 +1,6 @@
 // Random maps, thresholds, guards and rooms. They are drawn so that each kind comes often: maps with many cells above 0 and with few, and
-// those that the map call makes; thresholds that a cell just reaches; guards that take in an end of the window, all of it, or one offset;
-// rooms that are just filled, and a number or a stretch short. Here and there is a fault, and two at once.
+// those that the plain map call makes; thresholds that a cell just reaches; guards that take in an end of the window, all of it, or one
+// offset; rooms that are just filled, and a number or a stretch short. Here and there is a fault, and two at once.
 use crate::stretches;
 use crate::stretches::Asked;
 use blanking::Guard;
@@ -31,8 +31,8 @@ fn draw_values(map: &mut [u8], seldom: u32, state: u64) {
     }
 }
 
-// Adds up to three sources of a case into a map, with no fault but by a rare chance. A map that is not of its run's length stays as it is.
-fn add_sources(case: Case, map: &mut [u8], state: u64) {
+// Makes the map of up to three sources of a case, with no fault but by a rare chance. A map that is not of its run's length stays as it is.
+fn make_map(case: Case, map: &mut [u8], state: u64) {
     let mut periods = [0u32; 3];
     let mut weights = [0u32; 3];
     let mut phases = [0u32; 3];
@@ -48,7 +48,7 @@ fn add_sources(case: Case, map: &mut [u8], state: u64) {
         state,
         4294967295,
     );
-    map::add_to_map(
+    map::make_map(
         case.run,
         &periods[0..count],
         &weights[0..count],
@@ -63,7 +63,7 @@ pub fn draw_map(case: Case, map: &mut [u8], state: u64) {
         0 => draw_values(map, 1, state),
         1 => draw_values(map, 4, state),
         2 => draw_values(map, 12, state),
-        _ => add_sources(case, map, state),
+        _ => make_map(case, map, state),
     }
 }
 

@@ -1,4 +1,4 @@
-// The blanking call over 01's map, which the map call makes, with what 02 has it answer; and at the ends of the ranges: the first and the
+// The blanking call over 01's map, which the plain map call makes, with what 02 has it answer; and at the ends of the ranges: the first and the
 // last line there is, one line, the widest window, the ends of 64 bits.
 use crate::comparing;
 use crate::comparing::NO_LINE;
@@ -20,10 +20,10 @@ fn run_of(first: u32, last: u32) -> Run {
     }
 }
 
-// 01's map: window 4, interval 10, lines 1 to 5, sources 7 60 and 3 200, onto a cleared map.
+// 01's map: window 4, interval 10, lines 1 to 5, sources 7 60 and 3 200.
 fn example_map() -> [u8; 20] {
     let mut map = [0u8; 20];
-    map::add_to_map(run_of(1, 5), &[7, 3], &[60, 200], &[0, 0], &mut map);
+    map::make_map(run_of(1, 5), &[7, 3], &[60, 200], &[0, 0], &mut map);
     map
 }
 

@@ -161,6 +161,16 @@ pub fn up_to(state: u64, limit: u32) -> u32 {
     add32(below(state, limit), 1)
 }
 
+// Makes every byte 0.
+pub fn clear(bytes: &mut [u8]) {
+    let all = bytes.len();
+    let mut x: usize = 0;
+    while x < all {
+        put_byte(bytes, x, 0);
+        x += 1;
+    }
+}
+
 // Fills bytes with random ones.
 pub fn draw_bytes(bytes: &mut [u8], state: u64) {
     let all = bytes.len();

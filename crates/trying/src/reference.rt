@@ -78,6 +78,22 @@ pub fn expect_map(
     }
 }
 
+// Makes a map what the plain call is to make of it: the same, but from zeros, whatever it held.
+pub fn expect_made(
+    refusal: Refusal,
+    run: Run,
+    periods: &[u32],
+    weights: &[u32],
+    phases: &[u32],
+    map: &mut [u8],
+) {
+    if refusal.number != 0 {
+        return;
+    }
+    numbers::clear(map);
+    expect_map(refusal, run, periods, weights, phases, map);
+}
+
 // Marks the cells that a source hits. The marks are 0 before.
 pub fn mark(run: Run, source: Source, marks: &mut [u8]) {
     let period = [source.period];

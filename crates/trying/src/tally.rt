@@ -1,5 +1,5 @@
 // What is counted, for each line that is printed: how many cases were tried, and how many of them were bad.
-// The counts are in a lent list of 64 numbers: those tried at the line's own number, those bad 32 further on.
+// The counts are in a lent list of 128 numbers: those tried at the line's own number, those bad 64 further on.
 use crate::numbers;
 use crate::reference;
 use crate::reference::Refusal;
@@ -14,7 +14,7 @@ pub const LISTING: usize = 2;
 
 pub const BLOCK: usize = 3;
 
-pub const MAP: usize = 4;
+pub const MADE: usize = 4;
 
 pub const SAVING: usize = 5;
 
@@ -70,9 +70,20 @@ pub const PHASED: usize = 30;
 
 pub const SINGLE_PHASED: usize = 31;
 
+pub const ADDED: usize = 32;
+
+pub const NO_SOURCES: usize = 33;
+
+pub const NO_WEIGHT: usize = 34;
+
+pub const MADE_TWICE: usize = 35;
+
+// So many lines there may be.
+const LINES: usize = 64;
+
 // A list of counts, all 0.
-pub fn ledger() -> [u64; 64] {
-    [0; 64]
+pub fn ledger() -> [u64; 128] {
+    [0; 128]
 }
 
 // Adds 1 to a count of the list.
@@ -82,12 +93,12 @@ fn one_more(ledger: &mut [u64], at: usize) {
 
 // Counts a case under a line; a case that is not fine is bad. Answers whether it is fine.
 pub fn count(ledger: &mut [u64], line: usize, fine: bool) -> bool {
-    if 32 <= line {
+    if LINES <= line {
         return false;
     }
     one_more(ledger, line);
     if !fine {
-        one_more(ledger, line + 32);
+        one_more(ledger, line + LINES);
     }
     fine
 }
@@ -120,13 +131,13 @@ pub fn count_sources(
 
 // Prints what was counted under a line, after some words.
 pub fn print(ledger: &[u64], line: usize, words: &[u8]) {
-    if 32 <= line {
+    if LINES <= line {
         return;
     }
     io::write_all(1, words);
     io::write_all(1, b": ");
     io::print_decimal(1, numbers::long_at(ledger, line));
     io::write_all(1, b" tried, ");
-    io::print_decimal(1, numbers::long_at(ledger, line + 32));
+    io::print_decimal(1, numbers::long_at(ledger, line + LINES));
     io::write_all(1, b" bad\n");
 }

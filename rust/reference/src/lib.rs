@@ -1,4 +1,4 @@
-//! Document 01, with the requests E1 to E3 and E5 of 02, once more: written from their text and not from the library's code.
+//! Document 01, with the requests E1 to E3, E5 and E6 of 02, once more: written from their text and not from the library's code.
 //! Hits are found by looking at every cell, or in long runs at every line; step vectors by trying all vectors, or for long
 //! periods by 01's conditions on what was answered; stretches by looking at every cell. The numbers of runs, sources, cells,
 //! vectors and guards are i128. An answer is `Ok`, a refusal `Err`.
@@ -251,7 +251,53 @@ fn sources_of(periods: &[u32], weights: &[u32], phases: &[u32]) -> Vec<(Source, 
     (0..periods.len()).map(source).collect()
 }
 
-/// The map afterwards. `hits` gives the hits of each source, for runs of a length of the caller's choice.
+/// The sources of a map call with their weights, or its refusal: 01's order, with E1's line limits and places and E5's phases.
+/// E6 names no refusal, so that both calls have it.
+fn judge_map(
+    run: &Run,
+    periods: &[u32],
+    weights: &[u32],
+    phases: &[u32],
+    map: &[u8],
+) -> Reply<Vec<(Source, i128)>> {
+    run.judge()?;
+    let count = periods.len();
+    refuse_if(weights.len() != count || phases.len() != count, 10)?;
+    let sources = sources_of(periods, weights, phases);
+    judge_sources(&sources)?;
+    refuse_if(map.len() as i128 != run.cells(), 9)?;
+    Ok(sources)
+}
+
+/// "The plain map call shall clear first" (E6): cell by cell, the smaller of 255 and the weights of all list entries that hit it,
+/// whatever it held. `hits` gives the hits of each source, rising, for runs of a length of the caller's choice.
+pub fn make_map(
+    run: &Run,
+    periods: &[u32],
+    weights: &[u32],
+    phases: &[u32],
+    map: &mut [u8],
+    hits: impl Fn(&Run, Source) -> Vec<i128>,
+) -> Reply<()> {
+    let sources = judge_map(run, periods, weights, phases, map)?;
+    let mut entries: Vec<_> = sources
+        .into_iter()
+        .map(|(source, weight)| (hits(run, source).into_iter().peekable(), weight))
+        .collect();
+    for (x, cell) in (0i128..).zip(map) {
+        let mut sum: i128 = 0;
+        for (hits_left, weight) in &mut entries {
+            if hits_left.next_if_eq(&x).is_some() {
+                sum += *weight;
+            }
+        }
+        *cell = sum.min(255) as u8;
+    }
+    Ok(())
+}
+
+/// "Adding onto a lent map becomes a call of its own under the old rule" (E6), which is 01's: "the smaller of 255 and old value +
+/// weights of all list entries that hit it". `hits` is as above.
 pub fn add_to_map(
     run: &Run,
     periods: &[u32],
@@ -260,12 +306,7 @@ pub fn add_to_map(
     map: &mut [u8],
     hits: impl Fn(&Run, Source) -> Vec<i128>,
 ) -> Reply<()> {
-    run.judge()?;
-    let count = periods.len();
-    refuse_if(weights.len() != count || phases.len() != count, 10)?;
-    let sources = sources_of(periods, weights, phases);
-    judge_sources(&sources)?;
-    refuse_if(map.len() as i128 != run.cells(), 9)?;
+    let sources = judge_map(run, periods, weights, phases, map)?;
     let mut sums: Vec<u64> = map.iter().map(|&cell| cell as u64).collect();
     for (source, weight) in sources {
         for x in hits(run, source) {

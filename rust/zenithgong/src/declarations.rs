@@ -35,9 +35,10 @@ pub struct ListingReply {
     pub next: u64,
 }
 
-/// What the map call came to. The place of the source at fault is counted from 1, and 0 where there is none.
+/// What a map call came to, the plain one or the adding one. The place of the source at fault is counted from 1, and 0 where
+/// there is none.
 #[repr(C)]
-pub struct AddedReply {
+pub struct MappedReply {
     pub refusal: u8,
     pub place: u64,
 }
@@ -59,7 +60,7 @@ pub struct RunReply {
     pub last: u32,
 }
 
-/// The run and the sources of a text, or the place of the source at fault, as in the map call.
+/// The run and the sources of a text, or the place of the source at fault, as in the map calls.
 #[repr(C)]
 pub struct TextReply {
     pub run: RunReply,
@@ -95,6 +96,25 @@ extern "C" {
         room_length: usize,
     ) -> ListingReply;
 
+    /// The plain map call: the map starts clean. Every cell becomes the sum of the weights of all sources that hit it, up to 255,
+    /// whatever it held; empty lists clear the map. A refused call has not cleared it.
+    pub fn zenithgong_make_map(
+        window: u32,
+        interval: u32,
+        first: u32,
+        last: u32,
+        periods: *const u32,
+        periods_length: usize,
+        weights: *const u32,
+        weights_length: usize,
+        phases: *const u32,
+        phases_length: usize,
+        map: *mut u8,
+        map_length: usize,
+    ) -> MappedReply;
+
+    /// Adds onto a lent map, which does not start clean: every cell keeps what it held and gains the weights of all sources that
+    /// hit it, up to 255; empty lists leave the map as it was.
     pub fn zenithgong_add_to_map(
         window: u32,
         interval: u32,
@@ -108,7 +128,7 @@ extern "C" {
         phases_length: usize,
         map: *mut u8,
         map_length: usize,
-    ) -> AddedReply;
+    ) -> MappedReply;
 
     pub fn zenithgong_list_stretches(
         window: u32,

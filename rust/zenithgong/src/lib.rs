@@ -7,7 +7,8 @@ pub mod declarations;
 
 use declarations::{
     zenithgong_add_to_map, zenithgong_first_hit, zenithgong_list_hits, zenithgong_list_stretches,
-    zenithgong_read, zenithgong_read_text, zenithgong_save, zenithgong_step_vectors, RunReply,
+    zenithgong_make_map, zenithgong_read, zenithgong_read_text, zenithgong_save,
+    zenithgong_step_vectors, MappedReply, RunReply,
 };
 use std::fmt;
 
@@ -202,8 +203,25 @@ pub fn list_hits(
     unless_refused(reply.refusal, listing)
 }
 
-/// Adds to every cell of a run's map the weights of all sources that hit it, up to 255.
-pub fn add_to_map(
+/// A map call as it is declared: the plain one or the adding one, which are given the same.
+type MapCall = unsafe extern "C" fn(
+    u32,
+    u32,
+    u32,
+    u32,
+    *const u32,
+    usize,
+    *const u32,
+    usize,
+    *const u32,
+    usize,
+    *mut u8,
+    usize,
+) -> MappedReply;
+
+/// One of the two declared map calls, and what it came to.
+fn call_on_map(
+    call: MapCall,
     run: Run,
     periods: &[u32],
     weights: &[u32],
@@ -211,7 +229,7 @@ pub fn add_to_map(
     map: &mut [u8],
 ) -> Result<(), Refusal> {
     let reply = unsafe {
-        zenithgong_add_to_map(
+        call(
             run.window,
             run.interval,
             run.first,
@@ -227,6 +245,32 @@ pub fn add_to_map(
         )
     };
     unless_at_fault(reply.refusal, reply.place, ())
+}
+
+/// Makes the map of a run, the plain map call: the map starts clean. Every cell becomes the sum of the weights of all sources
+/// that hit it, up to 255, whatever it held; with empty lists the map is cleared. A refused call has not cleared it.
+///
+/// To add onto what a map holds, as block jobs do source by source, there is [`add_to_map`].
+pub fn make_map(
+    run: Run,
+    periods: &[u32],
+    weights: &[u32],
+    phases: &[u32],
+    map: &mut [u8],
+) -> Result<(), Refusal> {
+    call_on_map(zenithgong_make_map, run, periods, weights, phases, map)
+}
+
+/// Adds onto a lent map of a run, which does not start clean: every cell keeps what it held and gains the weights of all sources
+/// that hit it, up to 255; with empty lists the map stays as it was. The refusals are those of [`make_map`].
+pub fn add_to_map(
+    run: Run,
+    periods: &[u32],
+    weights: &[u32],
+    phases: &[u32],
+    map: &mut [u8],
+) -> Result<(), Refusal> {
+    call_on_map(zenithgong_add_to_map, run, periods, weights, phases, map)
 }
 
 /// Writes the maximal stretches of consecutive lines of a run that each have a guard cell of its map at or above the threshold

@@ -1,4 +1,4 @@
--- The answer tells the reply that the map call gave for the same run, lists and map.
+-- The answer tells the reply that the adding call gave for the same run, lists and map.
 -- Assumes nothing.
 use borrow.Author.Needs.{needs}
 use Rattle.exports.proofs.zenithgong_add_to_map.Statement.{statement}
@@ -10,8 +10,8 @@ run-with-requires c κs = search needs
 add-to-map-requires : tie.Need-add-to-map-requires
 add-to-map-requires c κs = search needs
 
-tell-added-requires : tie.Need-tell-added-requires
-tell-added-requires c κs = search needs
+tell-mapped-requires : tie.Need-tell-mapped-requires
+tell-mapped-requires c κs = search needs
 
 same-length : tie.Need-same-length
 same-length c = search needs
@@ -20,7 +20,7 @@ same-length c = search needs
 returns : tie.Need-returns
 returns c =
     let called = c .before .before .before in
-    record { reply = _; promised = rw (called .before .before .run-with .ensures) at (called .add-to-map .ensures); is = c .tell-added .ensures }
+    record { reply = _; promised = rw (called .before .before .run-with .ensures) at (called .add-to-map .ensures); is = c .tell-mapped .ensures }
 
 pub zenithgong-add-to-map-spec : {M : Type 1} → statement M
-zenithgong-add-to-map-spec = tie.close (tie.spec run-with-requires add-to-map-requires tell-added-requires same-length returns)
+zenithgong-add-to-map-spec = tie.close (tie.spec run-with-requires add-to-map-requires tell-mapped-requires same-length returns)

@@ -44,7 +44,7 @@ add-blocks-requires c κs =
 add-chosen-requires : tie.Need-add-chosen-requires
 add-chosen-requires c κs =
     let p = c .before .before .before .before .before .before .before .before .before .before .before .before .before .pre in
-    record { valid = p .valid; equal = p .equal; sound = p .sound; whole = c .before .before .before .add-blocks .kept .1 .1 .1 .1 .1 .1 .0 ∙ p .whole }
+    record { valid = p .valid; equal = p .equal; sound = p .sound; whole = c .before .before .before .add-blocks .kept .1 .1 .1 .1 .1 .1 .1 .0 ∙ p .whole }
 
 same-length : tie.Need-same-length
 same-length c = search needs
@@ -52,14 +52,14 @@ same-length c = search needs
 returns : tie.Need-returns
 returns c = in-two _ _ _ (c .before .before .before .before .before .before .before .before .before .before .before .before .before .before .before .before .pre .sound) (c .before .before .before .before .before .before .add-blocks .ensures) (c .before .before .add-chosen .ensures)
 
-add-chosen-requires-2 : tie.Need-add-chosen-requires-2
-add-chosen-requires-2 c κs = search needs
+add-below-requires : tie.Need-add-below-requires
+add-below-requires c κs = search needs
 
 same-length-2 : tie.Need-same-length-2
 same-length-2 c = search needs
 
 returns-2 : tie.Need-returns-2
-returns-2 c = at-once _ _ _ (c .before .before .before .before .before .before .before .before .before .pre .sound) (c .before .before .add-chosen2 .ensures)
+returns-2 c = at-once _ _ _ (c .before .before .before .before .before .before .before .before .before .pre .sound) (c .before .before .add-below .ensures)
 
 pub add-all-spec : {M : Type 1} → statement M
 add-all-spec =
@@ -71,6 +71,6 @@ add-all-spec =
     add-chosen-requires
     same-length
     returns
-    add-chosen-requires-2
+    add-below-requires
     same-length-2
     returns-2)

@@ -10,28 +10,30 @@ use Prim.Native.Nat.{ℕ, suc, _+_, _-_, _*_, _≤_, _<_}
 use lib.ListN.{length, take, drop}
 use Rattle.scope.specs.declared.Run.{Run}
 use Rattle.scope.specs.declared.RunCell.{RunCell}
-use Rattle.scope.specs.Run.{ValidRun, ceiling, UpTo, linesOf, cellsOf, shiftOf}
+use Rattle.scope.specs.Run.{ValidRun, ceiling, linesOf, cellsOf, shiftOf}
 use Rattle.scope.proofs.Numbering.{IsBlock, valid-block, shift-next}
 use Rattle.sources.specs.Entry.{Entry, entriesOf}
+use Rattle.map.specs.declared.Start.{Start}
+use Rattle.map.specs.Sum.{raised}
 use Rattle.map.specs.Promise.{weightAt, added}
-use Rattle.map.specs.Inner.{chosen}
-use Rattle.map.proofs.Raised.{RaisedBelow, starts, patch, ends}
+use Rattle.map.specs.Inner.{RaisedFrom, startOf, chosen}
+use Rattle.map.proofs.Raised.{starts, patch-from, ends-from}
+use Rattle.map.proofs.Made.{start-length, start-part}
 use Rattle.map.proofs.Entries.{weight-shift}
 use Rattle.map.proofs.add_blocks.Statement.{statement}
 use Rattle.map.proofs.add_blocks.Tie as tie
 
-record Blocks (run : Run) (entries : List Entry) (old map : List ℕ) (first : ℕ) : Type 0 where
+record Blocks (run : Run) (entries : List Entry) (start : Start) (old map : List ℕ) (first : ℕ) : Type 0 where
   from : run .first ≤ first
   to : first ≤ suc (run .last)
-  small : UpTo ceiling old
   cells : ℕ
   cells-are : cells ≡ (first - run .first) * run .window
-  done : RaisedBelow ceiling (weightAt run entries) old cells map
+  done : RaisedFrom ceiling (weightAt run entries) (startOf start old) old 0 cells map
 
-begins : (run : Run) (entries : List Entry) (old : List ℕ) → ValidRun run → UpTo ceiling old → Blocks run entries old old (run .first)
-begins run entries old v small =
+begins : (run : Run) (entries : List Entry) (start : Start) (old : List ℕ) → ValidRun run → Blocks run entries start old old (run .first)
+begins run entries start old v =
     let none : run .first - run .first ≡ 0 = omega arith in
-    record { from = omega arith; to = omega arith; small = small; cells = 0; cells-are = rw none (omega arith); done = starts ceiling _ old 0 }
+    record { from = omega arith; to = omega arith; cells = 0; cells-are = rw none (omega arith); done = starts ceiling _ old 0 }
 
 -- a block's cells end within the run
 block-room : {run block : Run} → IsBlock run block → block .first ≤ block .last → cellsOf block + shiftOf run block ≤ cellsOf run
@@ -41,55 +43,55 @@ block-room {run} {block} b some =
     rw (b .window) (omega (arith, mul-le-mul-left (run .window) lines))
 
 -- where a block's part of the map starts and ends
-record Part (run block : Run) (first cells start end : ℕ) : Type 0 where
+record Part (run block : Run) (first cells from to : ℕ) : Type 0 where
   is : IsBlock run block
   at : block .first ≡ first
   some : first ≤ block .last
   cells-are : cells ≡ cellsOf block
-  start-is : start ≡ 0 + shiftOf run block
-  end-is : end ≡ cells + shiftOf run block
+  from-is : from ≡ 0 + shiftOf run block
+  to-is : to ≡ cells + shiftOf run block
 
-module _ {run : Run} {entries : List Entry} {old map : List ℕ} {first : ℕ} (so-far : Blocks run entries old map first) (v : ValidRun run) (whole : length old ≡ cellsOf run) where
-  part-ends : {block : Run} {cells start end : ℕ} → Part run block first cells start end → end ≤ length map
+module _ {run : Run} {entries : List Entry} {start : Start} {old map : List ℕ} {first : ℕ} (so-far : Blocks run entries start old map first) (v : ValidRun run) (whole : length old ≡ cellsOf run) where
+  part-ends : {block : Run} {cells from to : ℕ} → Part run block first cells from to → to ≤ length map
   part-ends p = let l = so-far .done .as-long in omega (arith, block-room (p .is) (omega arith))
 
-  part-cells : {block : Run} {cells start end : ℕ} → Part run block first cells start end → length (take (end - start) (drop start map)) ≡ cellsOf block
-  part-cells {block} {cells} {start} {end} p = mid-len start end map (part-ends p) ∙ omega arith
+  part-cells : {block : Run} {cells from to : ℕ} → Part run block first cells from to → length (take (to - from) (drop from map)) ≡ cellsOf block
+  part-cells {block} {cells} {from} {to} p = mid-len from to map (part-ends p) ∙ omega arith
 
-  -- the block at `first` is added to its part of the map
-  next : {block : Run} {cells start end : ℕ} {part : List ℕ} → Part run block first cells start end → part ≡ added ceiling block entries (take (end - start) (drop start map)) → Blocks run entries old (putMid start (end - start) map part) (block .last + 1)
+  -- the sources are added to what the block's part of the map starts from
+  next : {block : Run} {cells from to : ℕ} {part : List ℕ} → Part run block first cells from to → part ≡ added ceiling block entries (startOf start (take (to - from) (drop from map))) → Blocks run entries start old (putMid from (to - from) map part) (block .last + 1)
   unfolding shiftOf added
-  next {block} {cells} {start} {end} {part} p put =
+  next {block} {cells} {from} {to} {part} p put =
       let b = p .is in
       let on : Run = record { window = run .window; interval = run .interval; first = block .last + 1; last = run .last } in
-      let here : so-far .cells ≡ start = so-far .cells-are ∙ ap (λ n. (n - run .first) * run .window) (sym (p .at)) ∙ omega arith in
+      let here : so-far .cells ≡ from = so-far .cells-are ∙ ap (λ n. (n - run .first) * run .window) (sym (p .at)) ∙ omega arith in
       let there : (block .last + 1 - run .first) * run .window ≡ shiftOf run block + cellsOf block = shift-next b on (omega arith) (add-one (block .last)) in
-      let so : RaisedBelow ceiling (weightAt run entries) old start map = rw here at (so-far .done) in
+      let so : RaisedFrom ceiling (weightAt run entries) (startOf start old) old 0 from map = rw here at (so-far .done) in
       let room = part-ends p in
       let l = so-far .done .as-long in
-      let moved : start ≡ shiftOf run block = omega arith in
+      let moved : from ≡ shiftOf run block = omega arith in
+      let started : part ≡ raised ceiling (weightAt block entries) 0 (take (to - from) (drop from (startOf start old))) = put ∙ ap (raised ceiling (weightAt block entries) 0) (start-part start (to - from) so (omega arith)) in
       record {
         from = omega arith;
         to = omega arith;
-        small = so-far .small;
-        cells = end;
+        cells = to;
         cells-are = omega arith;
-        done = patch so (weightAt block entries) {k = end - start} (omega arith) (omega arith) put (λ i h. rw moved (weight-shift v b entries i));
+        done = patch-from so (weightAt block entries) {k = to - from} (start-length start old) (omega arith) (omega arith) started (λ i h. rw moved (weight-shift v b entries i));
       }
 
   -- past the last line
-  all : run .last < first → map ≡ added ceiling run entries old
+  all : run .last < first → map ≡ added ceiling run entries (startOf start old)
   unfolding added cellsOf linesOf
   all h =
       let lines : first ≡ suc (run .last) = omega arith in
       let end = ap (λ n. (n - run .first) * run .window) lines in
-      ends (so-far .done) (omega (arith, so-far .cells-are))
+      ends-from (so-far .done) (start-length start old) (omega (arith, so-far .cells-are))
 
 abbrev Inv-loop : tie.InvT-loop
-Inv-loop run periods weights phases high lines map₀ first₀ map first = Blocks run (chosen 0 high (entriesOf periods weights phases)) map₀ map first
+Inv-loop run periods weights phases high lines start map₀ first₀ map first = Blocks run (chosen 0 high (entriesOf periods weights phases)) start map₀ map first
 
 abbrev μ-loop : tie.MeasureT-loop
-μ-loop run periods weights phases high lines map₀ first₀ map first = suc (run .last) - first
+μ-loop run periods weights phases high lines start map₀ first₀ map first = suc (run .last) - first
 
 -- the part of the map that is lent, once its end is known
 lent : (c : tie.After-in-run2 Inv-loop μ-loop) → Part (c .before .before .before .before .before .before .before .before .before .before .before .args .run) (c .before .before .before .block-from .result) (c .before .before .before .before .before .before .loop .first) (c .before .cells .result) (c .before .before .in-run .result .0) (c .in-run2 .result .0)
@@ -100,12 +102,12 @@ lent c =
       at = b .1;
       some = b .2;
       cells-are = c .before .cells .ensures;
-      start-is = ap (λ (cell : RunCell). cell .0) (c .before .before .in-run .ensures);
-      end-is = ap (λ (cell : RunCell). cell .0) (c .in-run2 .ensures);
+      from-is = ap (λ (cell : RunCell). cell .0) (c .before .before .in-run .ensures);
+      to-is = ap (λ (cell : RunCell). cell .0) (c .in-run2 .ensures);
     }
 
 loop-holds : tie.Need-loop-holds Inv-loop μ-loop
-loop-holds c = begins _ _ _ (c .before .before .before .before .pre .0 .valid) (λ i. omega (arith, c .slice-known .given i))
+loop-holds c = begins _ _ _ _ (c .before .before .before .before .pre .0 .valid)
 
 block-from-requires : tie.Need-block-from-requires Inv-loop μ-loop
 block-from-requires c κs = (c .before .before .before .before .before .before .before .pre .0 .valid, c .before .before .loop .inv .from, c .if1 .taken, c .before .before .before .before .before .before .before .pre .1)
@@ -125,17 +127,17 @@ in-run-requires-2 c κs =
     let v = valid-block (c .before .before .before .before .before .before .before .before .before .before .pre .0 .valid) (b .0) (omega arith) in
     (c .before .before .before .before .before .before .before .before .before .before .pre .0 .valid, b .0, v, omega (arith, c .cells .ensures))
 
-sub-add-chosen : tie.Need-sub-add-chosen Inv-loop μ-loop
-sub-add-chosen c = let p = lent c in omega arith
+sub-add-below : tie.Need-sub-add-below Inv-loop μ-loop
+sub-add-below c = let p = lent c in omega arith
 
-part-add-chosen-start : tie.Need-part-add-chosen-start Inv-loop μ-loop
-part-add-chosen-start c = let p = lent c in omega arith
+part-add-below-start : tie.Need-part-add-below-start Inv-loop μ-loop
+part-add-below-start c = let p = lent c in omega arith
 
-part-add-chosen-end : tie.Need-part-add-chosen-end Inv-loop μ-loop
-part-add-chosen-end c = part-ends (c .before .before .before .before .before .before .loop .inv) (c .before .before .before .before .before .before .before .before .before .before .before .pre .0 .valid) (c .before .before .before .before .before .before .before .before .before .before .before .pre .0 .whole) (lent c)
+part-add-below-end : tie.Need-part-add-below-end Inv-loop μ-loop
+part-add-below-end c = part-ends (c .before .before .before .before .before .before .loop .inv) (c .before .before .before .before .before .before .before .before .before .before .before .pre .0 .valid) (c .before .before .before .before .before .before .before .before .before .before .before .pre .0 .whole) (lent c)
 
-add-chosen-requires : tie.Need-add-chosen-requires Inv-loop μ-loop
-add-chosen-requires c κs =
+add-below-requires : tie.Need-add-below-requires Inv-loop μ-loop
+add-below-requires c κs =
     let p = c .before .before .before .before .before .before .before .before .before .before .before .before .pre in
     let b = c .before .before .before .before .block-from .ensures in
     record { valid = valid-block (p .0 .valid) (b .0) (omega arith); equal = p .0 .equal; sound = p .0 .sound; whole = part-cells (c .before .before .before .before .before .before .before .loop .inv) (p .0 .valid) (p .0 .whole) (lent (c .before)) }
@@ -149,7 +151,7 @@ loop-less c = let b = c .before .before .before .before .before .before .before 
 loop-again : tie.Need-loop-again Inv-loop μ-loop
 loop-again c =
     let p = c .before .before .before .before .before .before .before .before .before .before .before .before .before .before .before .before .pre in
-    next (c .before .before .before .before .before .before .before .before .before .before .before .loop .inv) (p .0 .valid) (p .0 .whole) (lent (c .before .before .before .before .before)) (c .before .before .before .add-chosen .ensures)
+    next (c .before .before .before .before .before .before .before .before .before .before .before .loop .inv) (p .0 .valid) (p .0 .whole) (lent (c .before .before .before .before .before)) (c .before .before .before .add-below .ensures)
 
 same-length : tie.Need-same-length Inv-loop μ-loop
 same-length c = c .before .before .loop .inv .done .as-long
@@ -168,10 +170,10 @@ add-blocks-spec =
     in-run-requires
     cells-requires
     in-run-requires-2
-    sub-add-chosen
-    part-add-chosen-start
-    part-add-chosen-end
-    add-chosen-requires
+    sub-add-below
+    part-add-below-start
+    part-add-below-end
+    add-below-requires
     add-first
     loop-less
     loop-again

@@ -1,4 +1,4 @@
--- `report::write_map_of` meets its contract: what adding leaves in the cleared cells is the map. Assumes nothing.
+-- `report::write_map_of` meets its contract: what the plain call makes is the map. Assumes nothing.
 use mathlib.Core.Path.{_≡_, ap}
 use mathlib.Core.List.{_++_}
 use Rattle.sources.specs.Entry.{entriesOf}
@@ -10,29 +10,29 @@ use Rattle.report.proofs.write_map_of.Statement.{statement}
 use Rattle.report.proofs.write_map_of.Tie as tie
 
 -- what the cells hold then
-cells-are : (c : tie.After-add-to-map)
+cells-are : (c : tie.After-make-map)
     → let a = c .before .before .before .before .before .before .before .args in
-    c .add-to-map .last .1 .1 .1 .1 .0 ≡ reportedMap (a .run) (entriesOf (a .periods .now) (a .weights .now) (a .phases .now))
+    c .make-map .last .1 .1 .1 .1 .0 ≡ reportedMap (a .run) (entriesOf (a .periods .now) (a .weights .now) (a .phases .now))
 cells-are c =
     let start = c .before .before .before .before .before .before .before in
-    map-is (start .pre .0) (start .pre .1 .0) (c .add-to-map .ensures)
+    map-is (start .pre .0) (start .pre .1 .0) (c .make-map .ensures)
 
 -- the lines that are written
-lines-are : (c : tie.After-add-to-map)
+lines-are : (c : tie.After-make-map)
     → let a = c .before .before .before .before .before .before .before .args in
-    let map = c .add-to-map .last .1 .1 .1 .1 .0 in
+    let map = c .make-map .last .1 .1 .1 .1 .0 in
     mapReport 0 map ++ endReport map ≡ cellsReport (a .run) (entriesOf (a .periods .now) (a .weights .now) (a .phases .now))
 unfolding cellsReport
 lines-are c = ap (λ m. mapReport 0 m ++ endReport m) (cells-are c)
 
-add-to-map-requires : tie.Need-add-to-map-requires
-add-to-map-requires c κs = search needs
+make-map-requires : tie.Need-make-map-requires
+make-map-requires c κs = search needs
 
 write-cells-requires : tie.Need-write-cells-requires
 write-cells-requires c κs =
-    let added = c .before .before .before .before in
-    let start = added .before .before .before .before .before .before .before in
-    fits-same (start .args .at) _ _ (lines-are added) (start .pre .1 .1)
+    let made = c .before .before .before .before in
+    let start = made .before .before .before .before .before .before .before in
+    fits-same (start .args .at) _ _ (lines-are made) (start .pre .1 .1)
 
 same-length : tie.Need-same-length
 same-length c = search needs
@@ -42,9 +42,9 @@ same-length-2 c = search needs
 
 returns : tie.Need-returns
 returns c =
-    let added = c .before .before .before .before .before .before .before in
-    (written-same (lines-are added) (c .before .before .write-cells .ensures), cells-are added)
+    let made = c .before .before .before .before .before .before .before in
+    (written-same (lines-are made) (c .before .before .write-cells .ensures), cells-are made)
 
 pub write-map-of-spec : {M : Type 1} → statement M
 write-map-of-spec =
-    tie.close (tie.spec add-to-map-requires write-cells-requires same-length same-length-2 returns)
+    tie.close (tie.spec make-map-requires write-cells-requires same-length same-length-2 returns)

@@ -1,14 +1,13 @@
 -- `report::write_report` meets its contract: the four parts are the whole. Assumes nothing.
 use Prim.Native.Nat.{_-_, _≤_}
-use mathlib.Core.Path.{refl, ap, _∙_}
+use mathlib.Core.Path.{_≡_, refl, _∙_}
 use mathlib.Core.List.{_++_}
 use native.Mathlib.Omega.{arith}
-use lib.ListN.{take}
+use lib.ListN.{length}
+use lib.Seq.{length-take-le}
 use Rattle.text.specs.Promise.{mostCells}
-use Rattle.rooms.specs.Lists.{zeros}
 use Rattle.sources.specs.Entry.{entriesOf}
 use Rattle.report.specs.Report.{runReport, srcReport, cellsReport, wholeReport}
-use Rattle.report.proofs.Mapped.{cleared-part}
 use Rattle.rooms.proofs.Writing.{Writing, writing-starts, writing-more, writing-last, piece-fits, last-fits}
 use borrow.Author.Needs.{needs}
 use Rattle.report.proofs.write_report.Statement.{statement}
@@ -48,8 +47,8 @@ write-sources-requires c κs =
     let start = c .before .before .before .before .before .before .before .before .before in
     (start .pre .0, piece-fits (run-written (c .before .before .before)) (srcReport _ _ _) _ refl)
 
-cleared-requires : tie.Need-cleared-requires
-cleared-requires c κs = search needs
+cell-room-requires : tie.Need-cell-room-requires
+cell-room-requires c κs = search needs
 
 cells-requires : tie.Need-cells-requires
 cells-requires c κs = search needs
@@ -69,10 +68,9 @@ write-map-of-requires c κs =
     let written = cells .before .before .before .before in
     let start = written .before .before .before .before .before .before .before .before .before .before in
     let few : cells .cells .result ≤ mostCells = omega (arith, cells .cells .ensures, start .pre .0 .few) in
-    let part =
-    ap (take (cells .cells .result - 0)) (cells .before .cleared .ensures) ∙ cleared-part (cells .cells .result) few
-    ∙ ap zeros (cells .cells .ensures) in
-    (start .pre .0, (part, last-fits (sources-written written) (cellsReport _ _) refl))
+    let all : length (cells .before .cell-room .result) ≡ mostCells = search needs in
+    let part = length-take-le (cells .cells .result - 0) (cells .before .cell-room .result) (omega arith) in
+    (start .pre .0, (omega (arith, part, cells .cells .ensures), last-fits (sources-written written) (cellsReport _ _) refl))
 
 same-length : tie.Need-same-length
 same-length c = search needs
@@ -86,7 +84,7 @@ write-report-spec =
     (tie.spec
     write-run-requires
     write-sources-requires
-    cleared-requires
+    cell-room-requires
     cells-requires
     sub-write-map-of
     part-map-start

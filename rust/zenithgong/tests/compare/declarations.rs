@@ -1,7 +1,7 @@
 //! Nothing else holds the declarations to the Rattle source: its exported functions and the structs that they
 //! answer with are read here, and must be what `declarations.rs` has, in the same order.
 use std::mem::size_of;
-use zenithgong::declarations::{AddedReply, BlankingReply, RunReply, TextReply};
+use zenithgong::declarations::{BlankingReply, MappedReply, RunReply, TextReply};
 
 const RATTLE: &str = include_str!("../../../../crates/exports/src/lib.rt");
 const RUST: &str = include_str!("../../src/declarations.rs");
@@ -81,7 +81,7 @@ fn declarations_are_the_exports() {
     let exported = functions(&rattle, "#[no_mangle] pub extern \"C\" fn ", " ensures");
     assert_eq!(functions(&rust, "pub fn ", ";"), exported);
     assert_eq!(exported.len(), rattle.matches("no_mangle").count());
-    assert!(exported.len() >= 8);
+    assert!(exported.len() >= 9);
     for (name, _, answer) in &exported {
         let known = answers.iter().any(|(struct_name, _)| struct_name == answer);
         assert!(known || answer == "u8", "{} answers with {}", name, answer);
@@ -97,7 +97,7 @@ fn answer_with_a_count_has_its_size() {
 /// The answers that carry a place: 16 bytes, which come in two registers, and a text's 24 with its run, 8, 8, and the lists.
 #[test]
 fn answers_with_a_place_have_their_sizes() {
-    assert_eq!(size_of::<AddedReply>(), 16);
+    assert_eq!(size_of::<MappedReply>(), 16);
     assert_eq!(size_of::<RunReply>(), 20);
     assert_eq!(size_of::<TextReply>(), 24 + 8 + 8 + 3 * 64 * 4);
 }

@@ -1,5 +1,5 @@
 //! The bench figures of document 01, examples of request E1's refusals, of request E2's runs, of request E3's stretches, of
-//! request E4's columns and of request E5's phases, and the words of all refusals.
+//! request E4's columns, of request E5's phases and of request E6's clean maps, and the words of all refusals.
 use crate::library::*;
 use crate::sources::Lists;
 use crate::support::{trials, wide};
@@ -82,7 +82,7 @@ fn hits_of_the_document() {
     });
 }
 
-/// What a text says, and the map of its sources, both by the library.
+/// What a text says, and the map of its sources, both by the library; the map held nines before.
 fn mapped(text: &str) -> (Input, Vec<u8>) {
     let input = read_text(text.as_bytes()).unwrap();
     let Lists {
@@ -90,10 +90,15 @@ fn mapped(text: &str) -> (Input, Vec<u8>) {
         weights,
         phases,
     } = input.sources.iter().copied().collect();
-    let mut map = vec![0; wide(input.run).cells() as usize];
-    add_to_map(input.run, &periods, &weights, &phases, &mut map).unwrap();
+    let mut map = vec![9; wide(input.run).cells() as usize];
+    make_map(input.run, &periods, &weights, &phases, &mut map).unwrap();
     (input, map)
 }
+
+/// The map of the document's example.
+const MAP: [u8; 20] = [
+    200, 0, 0, 200, 0, 255, 0, 0, 0, 0, 200, 0, 255, 0, 0, 200, 0, 200, 0, 60,
+];
 
 /// The run of the document's example, its map and its file, all of them by the library.
 fn example() -> (Run, Vec<u8>, [u8; 1024]) {
@@ -107,10 +112,7 @@ fn example() -> (Run, Vec<u8>, [u8; 1024]) {
 fn map_and_file_of_the_document() {
     trials("the document's map and file", 1, |_| {
         let (run, map, file) = example();
-        let expected = [
-            200, 0, 0, 200, 0, 255, 0, 0, 0, 0, 200, 0, 255, 0, 0, 200, 0, 200, 0, 60,
-        ];
-        assert_eq!(map, expected);
+        assert_eq!(map, MAP);
         let check = |at: usize| u32::from_le_bytes(file[at..at + 4].try_into().unwrap());
         assert_eq!((check(508), check(1020)), (294, 22_327));
         let mut back = [0; 20];
@@ -187,8 +189,7 @@ fn line_limits_of_the_request() {
             assert_eq!(first_hit(run, nothing, u64::MAX), alone(number));
             let listing = list_hits(run, nothing, u64::MAX, &mut []);
             assert_eq!(listing, alone(number));
-            let added = add_to_map(run, &[0], &[0, 0], &[], &mut []);
-            assert_eq!(added, alone(number));
+            assert_eq!(refused_map(run, &[0], &[0, 0], &[], 20), alone(number));
             let (lowest, highest) = (1, 0);
             let guard = Guard { lowest, highest };
             assert_eq!(list_stretches(run, &[], 0, guard, &mut []), alone(number));
@@ -433,10 +434,10 @@ fn blanking(
     (answer, room)
 }
 
-/// The document's map, by the library.
+/// The document's map, by the library; it held nines before.
 fn bench_map() -> [u8; 20] {
-    let mut map = [0; 20];
-    add_to_map(BENCH, &[7, 3], &[60, 200], &[0, 0], &mut map).unwrap();
+    let mut map = [9; 20];
+    make_map(BENCH, &[7, 3], &[60, 200], &[0, 0], &mut map).unwrap();
     map
 }
 
@@ -487,30 +488,123 @@ fn refused_stretches_of_the_request() {
     });
 }
 
+/// What both map calls say with these lists and a map of so many nines. They have to refuse it, and to leave the nines.
+fn refused_map(
+    run: Run,
+    periods: &[u32],
+    weights: &[u32],
+    phases: &[u32],
+    cells: usize,
+) -> Result<(), Refusal> {
+    let [made, added] = [make_map, add_to_map].map(|call| {
+        let mut map = vec![9; cells];
+        let answer = call(run, periods, weights, phases, &mut map);
+        assert_eq!(map, vec![9; cells], "{:?}", answer);
+        answer
+    });
+    assert_eq!(made, added);
+    made
+}
+
 #[test]
 fn places_of_the_request() {
     trials("the request's places", 1, |_| {
         let text = "run 4 10 1 5\nsrc 7 60\nsrc 0 0\nsrc 9 0\n";
         text_says(text, of_source(4, 2));
-        let mut map = [9; 19];
-        let mut add = |periods: &[u32], weights: &[u32], phases: &[u32]| {
-            let answer = add_to_map(BENCH, periods, weights, phases, &mut map);
-            assert_eq!(map, [9; 19]);
-            answer
+        let said = |periods: &[u32], weights: &[u32], phases: &[u32]| {
+            refused_map(BENCH, periods, weights, phases, 19)
         };
-        assert_eq!(add(&[7, 3], &[60, 256], &[6, 2]), of_source(7, 2));
-        assert_eq!(add(&[7, 0, 9], &[60, 0, 0], &[0; 3]), of_source(4, 2));
-        assert_eq!(add(&[7, 3, 0], &[0, 256, 0], &[0; 3]), of_source(7, 1));
-        assert_eq!(add(&[7, 3], &[60, 255], &[6, 3]), of_source(22, 2));
-        assert_eq!(add(&[7, 3], &[60, 256], &[7, 3]), of_source(22, 1));
-        assert_eq!(add(&[7, 3], &[0, 60], &[7, 3]), of_source(7, 1));
-        assert_eq!(add(&[7, 3], &[60, 255], &[6, 2]), alone(9));
-        assert_eq!(add(&[0, 3], &[60], &[0, 0]), alone(10));
-        assert_eq!(add(&[0], &[60, 0], &[0, 0]), alone(10));
-        assert_eq!(add(&[0, 3], &[60, 0], &[0]), alone(10));
-        assert_eq!(add(&[0, 3], &[60, 0], &[0; 3]), alone(10));
-        assert_eq!(add(&[], &[], &[7]), alone(10));
-        assert_eq!(add(&[], &[], &[]), alone(9));
+        assert_eq!(said(&[7, 3], &[60, 256], &[6, 2]), of_source(7, 2));
+        assert_eq!(said(&[7, 0, 9], &[60, 0, 0], &[0; 3]), of_source(4, 2));
+        assert_eq!(said(&[7, 3, 0], &[0, 256, 0], &[0; 3]), of_source(7, 1));
+        assert_eq!(said(&[7, 3], &[60, 255], &[6, 3]), of_source(22, 2));
+        assert_eq!(said(&[7, 3], &[60, 256], &[7, 3]), of_source(22, 1));
+        assert_eq!(said(&[7, 3], &[0, 60], &[7, 3]), of_source(7, 1));
+        assert_eq!(said(&[7, 3], &[60, 255], &[6, 2]), alone(9));
+        assert_eq!(said(&[0, 3], &[60], &[0, 0]), alone(10));
+        assert_eq!(said(&[0], &[60, 0], &[0, 0]), alone(10));
+        assert_eq!(said(&[0, 3], &[60, 0], &[0]), alone(10));
+        assert_eq!(said(&[0, 3], &[60, 0], &[0; 3]), alone(10));
+        assert_eq!(said(&[], &[], &[7]), alone(10));
+        assert_eq!(said(&[], &[], &[]), alone(9));
+    });
+}
+
+/// The example of request E6, on a map of nines. The adding call with empty lists changes nothing, and it adds the document's
+/// sources to the nines; the plain call with empty lists clears the map, and of the sources it makes the document's.
+#[test]
+fn nines_of_the_request() {
+    trials("the request's maps of nines", 1, |_| {
+        let mut map = [9; 20];
+        assert_eq!(add_to_map(BENCH, &[], &[], &[], &mut map), Ok(()));
+        assert_eq!(map, [9; 20]);
+        let mut added = map;
+        add_to_map(BENCH, &[7, 3], &[60, 200], &[0, 0], &mut added).unwrap();
+        let expected = [
+            209, 9, 9, 209, 9, 255, 9, 9, 9, 9, 209, 9, 255, 9, 9, 209, 9, 209, 9, 69,
+        ];
+        assert_eq!(added, expected);
+        assert_eq!(make_map(BENCH, &[], &[], &[], &mut map), Ok(()));
+        assert_eq!(map, [0; 20]);
+        assert_eq!(bench_map(), MAP);
+    });
+}
+
+/// The trainee of request E6: the document's first source was found, and its second was left. The plain call, lent the as-found
+/// map, makes that of the second alone; it takes the adding call to get both.
+#[test]
+fn as_found_and_as_left() {
+    trials("the request's as-found map", 1, |_| {
+        let mut found = [9; 20];
+        make_map(BENCH, &[7], &[60], &[0], &mut found).unwrap();
+        let first = [
+            0, 0, 0, 0, 0, 60, 0, 0, 0, 0, 0, 0, 60, 0, 0, 0, 0, 0, 0, 60,
+        ];
+        assert_eq!(found, first);
+        let mut left = found;
+        make_map(BENCH, &[3], &[200], &[0], &mut left).unwrap();
+        let second = [
+            200, 0, 0, 200, 0, 200, 0, 0, 0, 0, 200, 0, 200, 0, 0, 200, 0, 200, 0, 0,
+        ];
+        assert_eq!(left, second);
+        add_to_map(BENCH, &[3], &[200], &[0], &mut found).unwrap();
+        assert_eq!(found, MAP);
+    });
+}
+
+/// A refused call has not cleared: every refusal of the map calls, those of the run and of the map's length with empty lists too.
+#[test]
+fn refused_maps_of_the_request() {
+    trials("the request's refused maps", 1, |_| {
+        let runs = [
+            (5, 10, 5, 1),
+            (4, 10, 0, 17),
+            (4, 10, 16_777_217, 18),
+            (4, 0, 5, 3),
+        ];
+        for (window, interval, last, number) in runs {
+            let run = Run {
+                window,
+                interval,
+                last,
+                ..BENCH
+            };
+            assert_eq!(refused_map(run, &[], &[], &[], 20), alone(number));
+            assert_eq!(refused_map(run, &[7], &[60], &[0], 20), alone(number));
+        }
+        let said = |periods: &[u32], weights: &[u32], phases: &[u32]| {
+            refused_map(BENCH, periods, weights, phases, 20)
+        };
+        assert_eq!(said(&[7], &[], &[]), alone(10));
+        assert_eq!(said(&[], &[], &[0]), alone(10));
+        assert_eq!(said(&[0], &[60], &[0]), of_source(4, 1));
+        assert_eq!(said(&[7], &[0], &[0]), of_source(7, 1));
+        assert_eq!(said(&[7], &[60], &[7]), of_source(22, 1));
+        assert_eq!(said(&[7, 3], &[60, 200], &[0, 3]), of_source(22, 2));
+        for cells in [0, 19, 21] {
+            assert_eq!(refused_map(BENCH, &[], &[], &[], cells), alone(9));
+            assert_eq!(refused_map(BENCH, &[7], &[60], &[0], cells), alone(9));
+        }
     });
 }
 

@@ -33,6 +33,16 @@ pub fn list_hits(
     counted(zenithgong::list_hits(run, source, start, room))
 }
 
+pub fn make_map(
+    run: Run,
+    periods: &[u32],
+    weights: &[u32],
+    phases: &[u32],
+    map: &mut [u8],
+) -> Result<(), Refusal> {
+    counted(zenithgong::make_map(run, periods, weights, phases, map))
+}
+
 pub fn add_to_map(
     run: Run,
     periods: &[u32],

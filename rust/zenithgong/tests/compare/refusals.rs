@@ -182,12 +182,12 @@ fn of_hits() {
     });
 }
 
-/// The order of the map call with one source.
+/// The order of both map calls with one source.
 const MAP: [&[u8]; 8] = [&[1], &[17, 18], &[3], &[10], &[4], &[7], &[22], &[9]];
 
 #[test]
 fn of_maps() {
-    trials("faults of the map", 200 * 256, |random| {
+    trials("faults of the map calls", 200 * 256, |random| {
         let faults = random.seed() % 256;
         let run = run(random, faults);
         let count = pick(random, &[1, 3, 9]);
@@ -198,12 +198,12 @@ fn of_maps() {
         let cells = wide(run).cells();
         let length = length(random, has(faults, RUN + 4), cells, 1);
         let map = random.bytes(length);
-        let said = maps::compare(run, &lists, map, false);
+        let said = maps::compare(run, &lists, &map, false);
         assert!(count > 1 || is_first(number(said), faults, &MAP));
     });
 }
 
-/// The map call and a text with the same lists, any source of which may be at fault in its period, its weight, its phase, or in
+/// The map calls and a text with the same lists, any source of which may be at fault in its period, its weight, its phase, or in
 /// more than one of them.
 #[test]
 fn of_lists() {
@@ -225,7 +225,7 @@ fn of_lists() {
         let off = random.one_in(4);
         let length = length(random, off, wide(small).cells(), 1);
         let map = random.bytes(length);
-        maps::compare(small, &lists, map, false).ok();
+        maps::compare(small, &lists, &map, false).ok();
     });
 }
 
@@ -244,7 +244,7 @@ fn of_long_lists() {
                 lists.periods[place + turn % 3] = period(random, true);
                 lists.weights[place + (turn + 1) % 3] = weight(random, true);
                 lists.phases[place + (turn + 2) % 3] = phase(random, true, 7);
-                let said = maps::compare(run(random, 0), &lists, Vec::new(), false);
+                let said = maps::compare(run(random, 0), &lists, &[], false);
                 assert_eq!(said.unwrap_err().place, Some(place as u64 + 1));
             }
         }

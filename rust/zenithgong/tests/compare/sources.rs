@@ -1,4 +1,4 @@
-//! Random sources, and the three lists of them that the map call is lent.
+//! Random sources, and the three lists of them that the map calls are lent.
 use crate::support::Random;
 use zenithgong::{Run, Source};
 

@@ -1,5 +1,4 @@
--- `map::add_to_map` meets its contract: each return is the first of its three groups of tests that fails, or the map with
--- every source added. Assumes nothing.
+-- `map::judge` meets its contract: each return is the first of its three groups of tests that fails, or that none does. Assumes nothing.
 use borrow.Author.Needs.{needs}
 use borrow.Author.Tests.{eq-eqb, ne-eqb}
 use native.Mathlib.Omega.{arith}
@@ -7,14 +6,12 @@ use mathlib.Core.Path.{sym, ap, _∙_}
 use mathlib.Core.Bool.{not}
 use Rattle.scope.specs.Run.{ValidRun, ceiling}
 use Rattle.scope.specs.Refusal.{_andThen_, runTests}
-use Rattle.scope.proofs.Judged.{Passes, broken, sound, first, then, both, fine, blamed}
-use Rattle.scope.proofs.Limits.{passes-first, passes-then, valid-run}
+use Rattle.scope.proofs.Judged.{Passes, broken, sound, first, then, both, fine, blamed, refuse-verdict, grant-verdict}
+use Rattle.scope.proofs.Limits.{passes-first, valid-run}
 use Rattle.sources.specs.Entry.{sourceListsTests}
-use Rattle.sources.proofs.Entries.{valid-lists}
 use Rattle.map.specs.Promise.{mapTests}
-use Rattle.map.proofs.Unique.{refused-call, granted-call}
-use Rattle.map.proofs.add_to_map.Statement.{statement}
-use Rattle.map.proofs.add_to_map.Tie as tie
+use Rattle.map.proofs.judge.Statement.{statement}
+use Rattle.map.proofs.judge.Tie as tie
 
 judge-run-requires : tie.Need-judge-run-requires
 judge-run-requires c κs = search needs
@@ -24,7 +21,7 @@ enum-known-reason c = search needs
 
 returns : tie.Need-returns
 unfolding mapTests
-returns c = refused-call (first (first (blamed (c .before .before .before .judge-run .ensures) (c .before .reason .given .1))))
+returns c = refuse-verdict (first (first (blamed (c .before .before .before .judge-run .ensures) (c .before .reason .given .1))))
 
 enum-told : tie.Need-enum-told
 enum-told c = search needs
@@ -43,7 +40,7 @@ returns-2 : tie.Need-returns-2
 unfolding mapTests
 returns-2 c =
     let lists = c .before .before .before in
-    refused-call (first (then (run-passes lists) (blamed (lists .judge-lists .ensures) (c .before .reason2 .given .1))))
+    refuse-verdict (first (then (run-passes lists) (blamed (lists .judge-lists .ensures) (c .before .reason2 .given .1))))
 
 enum-told-2 : tie.Need-enum-told-2
 enum-told-2 c = search needs
@@ -62,26 +59,14 @@ cells-requires c κs = run-valid c
 
 returns-3 : tie.Need-returns-3
 unfolding mapTests
-returns-3 c = refused-call (then (lists-pass (c .before .before)) (broken (ap not (ne-eqb _ _ (λ e. c .if1 .taken (e ∙ sym (c .before .cells .ensures)))))))
-
-add-all-requires : tie.Need-add-all-requires
-add-all-requires c κs =
-    let told = c .before .before .before in
-    let lists = valid-lists ceiling _ _ _ .0 (passes-then (lists-pass told)) in
-    record { valid = run-valid told; equal = lists .0; sound = lists .1 .is; whole = c .before .if1 .left ∙ c .before .before .cells .ensures }
-
-same-length : tie.Need-same-length
-same-length c = search needs
+returns-3 c = refuse-verdict (then (lists-pass (c .before .before)) (broken (ap not (ne-eqb _ _ (λ e. c .if1 .taken (e ∙ sym (c .before .cells .ensures)))))))
 
 returns-4 : tie.Need-returns-4
 unfolding mapTests
-returns-4 c =
-    let cells = c .before .before .before .before .before in
-    let room = c .before .before .before .before .if1 .left ∙ cells .cells .ensures in
-    granted-call (both (lists-pass (cells .before)) (sound (ap not (eq-eqb _ _ room)))) (c .before .before .add-all .ensures)
+returns-4 c = grant-verdict (both (lists-pass (c .before .before)) (sound (ap not (eq-eqb _ _ (c .if1 .left ∙ c .before .cells .ensures)))))
 
-pub add-to-map-spec : {M : Type 1} → statement M
-add-to-map-spec =
+pub judge-spec : {M : Type 1} → statement M
+judge-spec =
     tie.close
     (tie.spec
     judge-run-requires
@@ -94,6 +79,4 @@ add-to-map-spec =
     enum-told-2
     cells-requires
     returns-3
-    add-all-requires
-    same-length
     returns-4)
