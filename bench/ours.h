@@ -44,10 +44,13 @@ steps_reply *zenithgong_step_vectors(steps_reply *reply, uint32_t period, uint32
 first_hit_reply zenithgong_first_hit(RUN, uint32_t period, uint32_t phase, uint64_t start);
 listing_reply *zenithgong_list_hits(listing_reply *reply, RUN, uint32_t period, uint32_t phase, uint64_t start, uint64_t *room,
                                     size_t length);
-// The plain map call and the adding one.
+// The two map calls have the same parameters.
 typedef mapped_reply mapping(RUN, const uint32_t *periods, size_t periods_length, const uint32_t *weights, size_t weights_length,
                              const uint32_t *phases, size_t phases_length, uint8_t *map, size_t cells);
-mapping zenithgong_make_map, zenithgong_add_to_map;
+// The plain call. Clears first: every cell becomes the weights of its hits, whatever it held.
+mapping zenithgong_make_map;
+// The adding call. Adds the weights of its hits onto what each cell holds.
+mapping zenithgong_add_to_map;
 blanking_reply zenithgong_list_stretches(RUN, const uint8_t *map, size_t cells, uint8_t threshold, int64_t lowest, int64_t highest,
                                          uint32_t *room, size_t length);
 uint8_t zenithgong_save(RUN, const uint8_t *map, size_t cells, uint8_t *file, size_t length);

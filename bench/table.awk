@@ -35,7 +35,7 @@ function short(x) { return x == "-" ? "" : x >= 100 ? sprintf("%.0f", x) : x >= 
     for (k = 2; k <= 4; k++) if (name[k] == "-") name[k] = ""
     sub(/-/, ", ", name[2])
     print "| " what[name[1]] " | " name[2] " | " name[3] " | " name[4] " | " ours " | " short($6) " | " short($7) " | " short($8) " | " short($9) " | " short($10) " |"
-    ours_of[$1] = $3; naive[$1] = $6; gcc[$1] = $7; clang[$1] = $8; rust[$1] = $9; limit[$1] = $10
+    ours_of[$1] = $3; call_of[$1] = $4; naive[$1] = $6; gcc[$1] = $7; clang[$1] = $8; rust[$1] = $9; limit[$1] = $10
 }
 
 function verdict(met) { return met ? "met" : "**missed**" }
@@ -61,12 +61,12 @@ function peers_at_512(text, row, least) {
     aim("Rust / ours, " text, rust[row], least)
 }
 
-# "Clearing costs a memset at most": our adding call and a memset, over our plain call.
+# Clearing is to cost a memset at most: our adding call and a memset, over our plain call, all of them by the call.
 function clearing(set, size,    at, k, plain, both) {
     for (k = 1; k <= 3; k++) {
         at = set " " windows[k] " " size
-        plain = ours_of["plain " at]
-        both[at] = (ours_of["map " at] + limit["plain " at] * plain) / plain
+        plain = call_of["plain " at]
+        both[at] = (call_of["map " at] + limit["plain " at] * plain) / plain
     }
     peer("plain map, " set ", " size " MiB", set, size, 0.95, "adding and memset", both)
 }
@@ -96,10 +96,12 @@ END {
     peers("listing, mix, 1 MiB", "list mix", 1, 0.9)
     peers("listing, 2^20, 64 MiB", "list 2^20", 64, 0.9)
     peers_at_512("listing with phases, 2^20, 64 MiB", "list-phased 2^20 512 64", 0.9)
-    n = split("map mix 1 2.5,map mix 64 4,map 2^20 1 45,map 2^20 64 45,map 2^31 1 45,map 2^31 64 1000,plain mix 1 2.5,plain mix 64 4,plain 2^20 1 45,plain 2^20 64 45,plain 2^31 1 45,plain 2^31 64 45", rows, ",")
-    for (k = 1; k <= n; k++) {
-        split(rows[k], name, " ")
-        aim("naive / ours, " what[name[1]] ", " name[2] ", " name[3] " MiB", naive[name[1] " " name[2] " 512 " name[3]], name[4])
+    n = split("mix 1 2.5 2.5,mix 64 4 4,2^20 1 45 45,2^20 64 45 45,2^31 1 45 45,2^31 64 1000 45", rows, ",")
+    kinds = split("map,plain", kind, ",")
+    for (j = 0; j < kinds * n; j++) {
+        k = 1 + int(j / n)
+        split(rows[1 + j % n], name, " ")
+        aim("naive / ours, " what[kind[k]] ", " name[1] ", " name[2] " MiB", naive[kind[k] " " name[1] " 512 " name[2]], name[2 + k])
     }
     n = split("sparse-half 1,sparse-half 64,sparse-all 1,sparse-all 64,dense-half 1,dense-half 64,dense-all 1,dense-all 64", rows, ",")
     for (k = 1; k <= n; k++) {

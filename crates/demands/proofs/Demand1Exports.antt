@@ -227,7 +227,7 @@ answer-only : (r : Answer) (n : ℕ) (place : Place) → saysText r ≡ refused 
 answer-only (Read run) n place e = absurd (let z : _≡_ {A = ℕ} 0 1 = cc in omega arith)
 answer-only (Refused·text reason k) n place e = (reason, ap (Refused·text reason) (refused-same e .1))
 
--- ---- the eight functions
+-- ---- the nine functions
 
 -- `zenithgong_step_vectors`. (Nothing is lent.)
 module _ (p r I : ℕ) {a : StepsReply} (e : Exported (VectorsPromise p r I) tellSteps a) where

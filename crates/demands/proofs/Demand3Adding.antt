@@ -26,7 +26,7 @@ use Rattle.map.specs.Promise.{mapTests, weightAt, added, AddingPromiseAt}
 use Rattle.sources.specs.Lists.{periodsOf, weightsOf, phasesOf, ValidEntries}
 use Rattle.sources.proofs.Entries.{valid-entries-pass, valid-lists, entries-of, one-length}
 use Rattle.map.proofs.Entries.{weight-shift, added-append, added-none, added-same, added-length, added-within, added-getD}
-use Rattle.map.proofs.Unique.{granted-call, stores-new, says-map-injective}
+use Rattle.map.proofs.Calls.{granted-call, stores-new}
 use Rattle.demands.specs.FirstHit.{HitsCell}
 use Rattle.demands.specs.Cut.{Cut}
 use Rattle.demands.specs.Adding.{together, Maps, Call, Keep, leave, addedTo, NoneRefused, History, Adds}
@@ -88,7 +88,7 @@ module _ (c : ℕ) where
   call-adds : {block : Run} (entries : List Entry) {map : List ℕ} {answer : Mapped} {after : List ℕ} → ValidRun block → ValidEntries c entries → length map ≡ cellsOf block → AddingPromiseAt c block (periodsOf entries) (weightsOf entries) (phasesOf entries) map answer after → (answer ≡ Done) × (after ≡ added c block entries map)
   call-adds {block} entries {map} {answer} {after} v w e m =
       let got = stores-new (call-passes entries map v w e) m in
-      (says-map-injective answer Done (got .0), got .1 ∙ ap (λ (l : List Entry). added c block l map) (entries-of entries))
+      (got .0, got .1 ∙ ap (λ (l : List Entry). added c block l map) (entries-of entries))
 
   -- ---- a history, call after call
 

@@ -1,6 +1,6 @@
 -- Document 01, "How much each promise says": "For every input, refusals too, each public operation's promise determines the
--- reply and every lent cell afterwards. That no second reply fits is proved". One theorem for each of the library's nine
--- operations, which cites the one of the operation's own crate; of the eight C functions: exports, Unique. There is no
+-- reply and every lent cell afterwards. That no second reply fits is proved". One theorem for each of the library's ten
+-- operations, which cites the one of the operation's own crate; of the nine C functions: exports, Unique. There is no
 -- exception. Assumes nothing.
 use Prim.Native.Nat.{ℕ}
 use mathlib.Core.Path.{_≡_}

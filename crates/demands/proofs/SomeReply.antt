@@ -1,4 +1,4 @@
--- For every input of each of the nine operations some reply fits the promise, so that the theorems over the promises are not empty.
+-- For every input of each of the ten operations some reply fits the promise, so that the theorems over the promises are not empty.
 -- (That the program's own reply fits is what the check of each operation says.) Assumes nothing.
 use Prim.Native.Nat.{ℕ}
 use mathlib.Core.List.{List}

@@ -24,7 +24,11 @@ BlockMaps c periods weights phases (block ∷ blocks) (map ∷ maps) =
     MakingPromiseAt c block periods weights phases (map .lent) (map .answer) (map .after) ×
     BlockMaps c periods weights phases blocks maps
 
--- The blocks' maps afterwards, in line order.
+-- The blocks' maps as they were lent, and as they are afterwards, in line order.
+abbrev pub lentsOf : List BlockMap → List (List ℕ)
+lentsOf [] = []
+lentsOf (map ∷ maps) = map .lent ∷ lentsOf maps
+
 abbrev pub aftersOf : List BlockMap → List (List ℕ)
 aftersOf [] = []
 aftersOf (map ∷ maps) = map .after ∷ aftersOf maps

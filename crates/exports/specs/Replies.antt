@@ -53,7 +53,7 @@ tellListing (Done·listing n) = record { refusal = 0; more = 0; count = n; next 
 tellListing (More n cell) = record { refusal = 0; more = 1; count = n; next = cell .0 }
 tellListing (Refused·listing reason place) = record { refusal = number reason; more = 0; count = 0; next = 0 }
 
--- The map call: the refusal's number and its place.
+-- A map call: the refusal's number and its place.
 abbrev pub tellMapped : Mapped → MappedReply
 tellMapped Done·mapped = record { refusal = 0; place = 0 }
 tellMapped (Refused·mapped reason place) = record { refusal = number reason; place = tellPlace place }

@@ -37,7 +37,8 @@ use Rattle.saved.specs.Promise.{saysSaving, SavingPromise}
 use Rattle.saved.proofs.Promises.{refuse-saving, grant-saving}
 use Rattle.map.specs.declared.Mapped.the-variants.{Done as Done·map}
 use Rattle.map.specs.Promise.{MakingPromise}
-use Rattle.map.proofs.Unique.{call-unique, whatever-held}
+use Rattle.map.proofs.Calls.{whatever-held}
+use Rattle.map.proofs.Unique.{call-unique}
 use Rattle.hits.specs.declared.Listing.{Listing}
 use Rattle.hits.specs.declared.Listing.the-variants.{Done, More, Refused}
 use Rattle.hits.specs.Promise.{firstHitTests, listingTests, first as first-of, Listed, saysListing, listed, written}
@@ -153,7 +154,7 @@ module _ (p r I first last : ℕ) (figure : List (ℤ × ℕ)) (cells : List ℕ
 -- an outcome that fits one map lent, as the figure's own cells, fits every other and is the only one
 pub map-row : (run : Run) (periods weights phases figure : List ℕ) → MakingPromise run periods weights phases figure Done·map figure → Holds (mapped run periods weights phases figure)
 map-row run periods weights phases figure h map e answer after =
-    let fits = whatever-held h (sym e) in
+    let fits = whatever-held _ run periods weights phases h (sym e) in
     (λ k. call-unique k fits, λ e. subst₂ (MakingPromise run periods weights phases map) (sym (e .0)) (sym (e .1)) fits)
 
 -- ---- saved maps

@@ -51,7 +51,7 @@ pub added-append : (c : ℕ) (run : Run) (a b : List Entry) (cells : List ℕ) �
 unfolding added
 added-append c run a b cells = raised-again c (weightAt run a) (weightAt run b) 0 cells ∙ raised-move c _ _ 0 0 cells (λ i k. sym (weight-append run a b (0 + i)))
 
--- "An empty list changes nothing."
+-- "An empty list changes nothing", in the adding call
 pub added-none : (c : ℕ) (run : Run) (cells : List ℕ) → UpTo c cells → added c run [] cells ≡ cells
 unfolding added raised weightAt
 added-none c run cells small = go 0 cells small

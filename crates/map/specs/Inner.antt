@@ -18,10 +18,11 @@ use Rattle.sources.specs.Lists.{OneLength}
 use Rattle.walk.specs.declared.Walk.{Walk}
 use Rattle.walk.specs.declared.LineHit.{LineHit}
 use Rattle.walk.specs.Inner.{Leads, Stands}
+use Rattle.map.specs.declared.Mapped.{Mapped}
 use Rattle.map.specs.declared.Start.{Start}
 use Rattle.map.specs.declared.Start.the-variants.{Clean, AsLent}
 use Rattle.map.specs.Sum.{capped}
-use Rattle.map.specs.Promise.{weightAt}
+use Rattle.map.specs.Promise.{weightAt, added, MapCallAt}
 
 -- What is looked at before the first store: the run, the three lists and the map's length are in order.
 pub record ValidCall (run : Run) (periods weights phases map : List ℕ) : Type 0 where
@@ -34,6 +35,10 @@ pub record ValidCall (run : Run) (periods weights phases map : List ℕ) : Type 
 abbrev pub startOf : Start → List ℕ → List ℕ
 startOf Clean map = zeros (length map)
 startOf AsLent map = map
+
+-- What both calls keep by a common step: the new cells are what the sources make of what the map starts from.
+abbrev pub CallFrom : Start → Run → (periods weights phases map : List ℕ) → Mapped → List ℕ → Type 0
+CallFrom start run periods weights phases map answer after = MapCallAt ceiling run periods weights phases map (added ceiling run (entriesOf periods weights phases) (startOf start map)) answer after
 
 -- The entries whose period is at least `low` and below `high`.
 unfoldable pub chosen : ℕ → ℕ → List Entry → List Entry

@@ -11,7 +11,7 @@ unfoldable pub raised : ℕ → (ℕ → ℕ) → ℕ → List ℕ → List ℕ
 raised c gain x [] = []
 raised c gain x (old ∷ cells) = capped c (old + gain x) ∷ raised c gain (suc x) cells
 
--- The same of n cells that were cleared first (E6), from number x on: each becomes "the smaller of 255 and" what its number gains.
+-- n cells from number x on, whatever they held (E6): each becomes "the smaller of 255 and" what its number gains.
 unfoldable pub summed : ℕ → (ℕ → ℕ) → (x n : ℕ) → List ℕ
 summed c gain x zero = []
 summed c gain x (suc n) = capped c (gain x) ∷ summed c gain (suc x) n

@@ -18,8 +18,8 @@ ghost use Rattle.scope.specs.Refusal.{complaint};
 ghost use Rattle.scope.specs.Inner.{IsBlock, verdict};
 ghost use Rattle.sources.specs.Entry.{entriesOf};
 ghost use Rattle.map.specs.Sum.{capped, raised};
-ghost use Rattle.map.specs.Promise.{mapTests, added, MapCallAt, MakingPromise, AddingPromise};
-ghost use Rattle.map.specs.Inner.{ValidCall, Crossing, AddsLeft, startOf, chosen, spaced, shortestOf};
+ghost use Rattle.map.specs.Promise.{mapTests, added, MakingPromise, AddingPromise};
+ghost use Rattle.map.specs.Inner.{ValidCall, Crossing, AddsLeft, startOf, CallFrom, chosen, spaced, shortestOf};
 
 // The reply of a map call.
 pub enum Mapped {
@@ -165,7 +165,7 @@ fn add_chosen(
     }
 }
 
-// Clears the cells for a clean start, and leaves them for any other.
+// Clears the cells for a clean start, and otherwise leaves them as they were lent.
 fn prepare(start: Start, map: &mut [u8])
     ensures { λ _. ⌜ now (map .exit) ≡ startOf start (now (map .entry)) ⌝ }
 {
@@ -307,7 +307,7 @@ fn map_call(
     start: Start,
     map: &mut [u8],
 ) -> Mapped
-    ensures { λ r. ⌜ MapCallAt ceiling run (now (periods .entry)) (now (weights .entry)) (now (phases .entry)) (now (map .entry)) (added ceiling run (entriesOf (now (periods .entry)) (now (weights .entry)) (now (phases .entry))) (startOf start (now (map .entry)))) r (now (map .exit)) ⌝ }
+    ensures { λ r. ⌜ CallFrom start run (now (periods .entry)) (now (weights .entry)) (now (phases .entry)) (now (map .entry)) r (now (map .exit)) ⌝ }
 {
     if let Verdict::Refused(reason, place) = judge(run, periods, weights, phases, map) {
         return Mapped::Refused(reason, place);
@@ -318,7 +318,7 @@ fn map_call(
 
 // Public operation, the plain map call. Makes the map of a run: every cell becomes the sum of the weights of all listed sources that hit
 // it, up to the ceiling, whatever it held. Refused, in this order: 1, 17, 18, 3 for the run, 10 for lists of unequal length, 4, 7 or 22 for
-// the first source at fault, with its place, 9 for a map not of the run's length; then the map is not cleared either.
+// the first source at fault, with its place, 9 for a map not of the run's length. Refused, it has not cleared the map.
 pub fn make_map(
     run: Run,
     periods: &[u32],

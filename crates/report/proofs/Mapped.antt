@@ -13,7 +13,7 @@ use Rattle.scope.proofs.Limits.{valid-run-passes}
 use Rattle.map.specs.declared.Mapped.{Mapped}
 use Rattle.map.specs.Promise.{mapTests, MakingPromise}
 use Rattle.sources.proofs.Entries.{valid-lists}
-use Rattle.map.proofs.Unique.{stores-new}
+use Rattle.map.proofs.Calls.{stores-new}
 use Rattle.report.specs.Report.{reportedMap}
 use Rattle.report.specs.Inner.{ValidInput}
 

@@ -1,4 +1,5 @@
-// Lent rooms: cleared, copied into, a number stored, bytes written one after the other; and numbers: the smaller, the larger, a byte widened.
+// Lent rooms: cleared, copied into, a number stored, bytes written one after the other; and numbers: the smaller, the larger, a byte
+// widened.
 // Every function is proved. No function here is a public operation: each is an inner step of the crates above.
 ghost use Prim.Native.Nat.{_+_, _≤_, min, max};
 ghost use mathlib.Core.Path.{_≡_};

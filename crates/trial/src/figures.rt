@@ -11,8 +11,8 @@ use crate::texts;
 use scope::Run;
 use scope::Source;
 use trying::reference::Refusal;
+use trying::reference::alone;
 use trying::reference::at_place;
-use trying::reference::plain;
 use trying::refusals;
 use trying::tally;
 use vectors::Steps;
@@ -20,7 +20,7 @@ use vectors::Steps;
 // I 6 with p 4: refused 6.
 pub fn wide_is_refused() -> bool {
     match vectors::step_vectors(4, 1, 6) {
-        Steps::Refused(reason, place) => refusals::same(reason, place, plain(6)),
+        Steps::Refused(reason, place) => refusals::same(reason, place, alone(6)),
         Steps::Pair(_, _) => false,
         Steps::Single(_) => false,
     }
@@ -49,12 +49,12 @@ pub fn try_last(ledger: &mut [u64]) {
     tally::count(
         ledger,
         tally::LAST,
-        listing::first_says(plain(0), last, source, 0),
+        listing::first_says(alone(0), last, source, 0),
     );
     tally::count(
         ledger,
         tally::LAST,
-        listing::first_says(plain(18), above, source, 0),
+        listing::first_says(alone(18), above, source, 0),
     );
 }
 
@@ -72,8 +72,8 @@ pub fn try_zero(ledger: &mut [u64]) {
         line,
         reports::reports(b"run 2 1 0 0\n", b"run 2 1 0 0 2\nend 0\n"),
     );
-    tally::count(ledger, tally::ZERO_FILE, files::read_says(plain(0), run));
-    tally::count(ledger, tally::ZERO_FILE, files::save_says(plain(0), run));
+    tally::count(ledger, tally::ZERO_FILE, files::read_says(alone(0), run));
+    tally::count(ledger, tally::ZERO_FILE, files::save_says(alone(0), run));
 }
 
 // The last cell of the largest run there is, which is hit, and the number after it, which is refused 8: as a start of the first hit and
@@ -93,13 +93,13 @@ pub fn try_last_cell(ledger: &mut [u64]) {
     tally::count(
         ledger,
         line,
-        listing::first_says(plain(8), run, source, all),
+        listing::first_says(alone(8), run, source, all),
     );
     tally::count(ledger, line, listing::lists_alone(run, source, last));
     tally::count(
         ledger,
         line,
-        listing::refused(plain(8), run, source, all, 8),
+        listing::refused(alone(8), run, source, all, 8),
     );
 }
 
@@ -126,7 +126,7 @@ fn try_lines(
     printed: &[u8],
 ) {
     let run = run_of(0, first, last);
-    let refusal = plain(number);
+    let refusal = alone(number);
     let source = unphased(0);
     tally::count(ledger, line, listing::first_says(refusal, run, source, 0));
     tally::count(ledger, line, listing::refused(refusal, run, source, 0, 8));
@@ -253,7 +253,7 @@ fn try_phase_faults(ledger: &mut [u64]) {
     try_refused(
         ledger,
         b"run 4 10 0 5\nsrc 7 60 2 1\n",
-        plain(11),
+        alone(11),
         b"refused 11\n",
     );
 }

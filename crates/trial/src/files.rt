@@ -9,8 +9,8 @@ use trying::layout;
 use trying::numbers;
 use trying::reference;
 use trying::reference::Refusal;
+use trying::reference::alone;
 use trying::reference::first_of;
-use trying::reference::plain;
 use trying::reference::when;
 use trying::refusals;
 use trying::tally;
@@ -95,7 +95,7 @@ pub fn read_says(refusal: Refusal, run: Run) -> bool {
     let mut file = [0u8; 1024];
     let mut room = [170u8; 20];
     let mut expected = [170u8; 20];
-    layout::lay_down(plain(0), run, &map, &mut file);
+    layout::lay_down(alone(0), run, &map, &mut file);
     reads_as(refusal, &file, &mut room, &mut expected)
 }
 
@@ -154,7 +154,7 @@ fn damage(file: &mut [u8], bytes: usize, state: u64) {
 // Puts the file of a run and a random map.
 fn lay_down_drawn(run: Run, map: &mut [u8], file: &mut [u8], state: u64) {
     numbers::draw_bytes(map, state);
-    layout::lay_down(plain(0), run, map, file);
+    layout::lay_down(alone(0), run, map, file);
 }
 
 // Whether the file of a case and a random map is read as it is to be, with other lines, up to two bytes changed and a wrong length

@@ -1,6 +1,7 @@
 // The test program: 01's bench figures without a star, examples from line 0, with phases and of maps that start clean, refusals with two
-// faults at a time, and random small runs, with a fault here and there and two at once, through every operation, against a walk over all cells, 01's layout of
-// a file and the table of refusals. Each line that it prints says how many cases of a kind were tried, and how many of them were bad.
+// faults at a time, and random small runs, with a fault here and there and two at once, through every operation, against a walk over all
+// cells, 01's layout of a file and the table of refusals. Each line that it prints says how many cases of a kind were tried, and how many
+// of them were bad.
 // Every function is proved safe and ending; that none is bad is what the stored output holds the program to.
 mod figures;
 mod files;

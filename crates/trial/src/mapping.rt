@@ -46,7 +46,7 @@ fn expect(
 ) {
     match call {
         MapCall::Make => reference::expect_made(refusal, run, periods, weights, phases, map),
-        MapCall::Add => reference::expect_map(refusal, run, periods, weights, phases, map),
+        MapCall::Add => reference::expect_added(refusal, run, periods, weights, phases, map),
     }
 }
 

@@ -3,8 +3,8 @@ use crate::mapping;
 use crate::mapping::MapCall;
 use scope::Run;
 use trying::numbers;
+use trying::reference::alone;
 use trying::reference::at_place;
-use trying::reference::plain;
 use trying::tally;
 
 // 01's run.
@@ -17,7 +17,7 @@ fn example() -> Run {
     }
 }
 
-// Whether the call with no sources is done and makes of a map of nines what is expected.
+// Whether the call with no sources is done and makes of a map of nines what is expected. The lists are the first 0 numbers of others.
 fn with_no_sources(call: MapCall, expected: [u8; 20]) -> bool {
     let mut map = [9u8; 20];
     let reply = mapping::ask(
@@ -28,7 +28,7 @@ fn with_no_sources(call: MapCall, expected: [u8; 20]) -> bool {
         numbers::first(&[0], 0),
         &mut map,
     );
-    mapping::says(reply, plain(0)) && numbers::same_bytes(&map, &expected)
+    mapping::says(reply, alone(0)) && numbers::same_bytes(&map, &expected)
 }
 
 // Whether the call with a weight of 0 is refused 7, source 1, and leaves a map of nines.
@@ -41,7 +41,7 @@ fn with_no_weight(call: MapCall) -> bool {
 // Whether the plain call, with 01's sources, is done and makes of a map what is expected.
 fn made(map: &mut [u8], expected: &[u8]) -> bool {
     let reply = mapping::ask(MapCall::Make, example(), &[7, 3], &[60, 200], &[0, 0], map);
-    mapping::says(reply, plain(0)) && numbers::same_bytes(map, expected)
+    mapping::says(reply, alone(0)) && numbers::same_bytes(map, expected)
 }
 
 // Whether a map of nines, made twice, is 01's map both times.

@@ -7,8 +7,8 @@ use trying::draw::Case;
 use trying::numbers;
 use trying::reference;
 use trying::reference::Refusal;
+use trying::reference::alone;
 use trying::reference::first_of;
-use trying::reference::plain;
 use trying::reference::when;
 use trying::refusals;
 use trying::spelling;
@@ -212,7 +212,7 @@ fn try_length(ledger: &mut [u64], period: u32, bytes: usize, number: u8) {
             && reads_first(
                 &room,
                 bytes,
-                plain(number),
+                alone(number),
                 run,
                 &periods,
                 &weights,

@@ -10,8 +10,8 @@ use trying::draw::Case;
 use trying::numbers;
 use trying::reference;
 use trying::reference::Refusal;
+use trying::reference::alone;
 use trying::reference::first_of;
-use trying::reference::plain;
 use trying::refusals;
 
 // What a room holds before a call. It is no line of any run.
@@ -45,7 +45,7 @@ pub fn replies(
 // How many stretches there are of the marked lines.
 fn count_stretches(marks: &[u8]) -> usize {
     let mut none = [0u32; 1];
-    stretches::expect_stretches(plain(0), 0, marks, &mut none[0..0])
+    stretches::expect_stretches(alone(0), 0, marks, &mut none[0..0])
 }
 
 // Whether the call makes of a room what it is to be, or refuses and leaves it, given the marked lines and what it is refused for before
@@ -128,7 +128,7 @@ fn lists_asked(ledger: &mut [u64], asked: Asked, map: &[u8], state: u64) -> bool
     lists_marked(ledger, early, asked, map, &mut marks[0..lines], state)
 }
 
-// The same for what is asked at random of a random map of a case. The map is 0 before.
+// The same for what is asked at random of a random map of a case.
 fn lists_drawn(ledger: &mut [u64], case: Case, map: &mut [u8], state: u64) -> bool {
     drawing::draw_map(case, map, state);
     let asked = drawing::draw_asked(case.run, map, state);

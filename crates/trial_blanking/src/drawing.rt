@@ -32,7 +32,7 @@ fn draw_values(map: &mut [u8], seldom: u32, state: u64) {
 }
 
 // Makes the map of up to three sources of a case, with no fault but by a rare chance. A map that is not of its run's length stays as it is.
-fn make_map(case: Case, map: &mut [u8], state: u64) {
+fn map_of_sources(case: Case, map: &mut [u8], state: u64) {
     let mut periods = [0u32; 3];
     let mut weights = [0u32; 3];
     let mut phases = [0u32; 3];
@@ -57,13 +57,13 @@ fn make_map(case: Case, map: &mut [u8], state: u64) {
     );
 }
 
-// Draws the map of a case: of random values, of few, of very few, or of sources. It is 0 before.
+// Draws the map of a case: of random values, of few, of very few, or of sources. Where the map call refuses it stays as it was.
 pub fn draw_map(case: Case, map: &mut [u8], state: u64) {
     match state >> 5 & 3 {
         0 => draw_values(map, 1, state),
         1 => draw_values(map, 4, state),
         2 => draw_values(map, 12, state),
-        _ => make_map(case, map, state),
+        _ => map_of_sources(case, map, state),
     }
 }
 

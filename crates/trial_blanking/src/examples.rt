@@ -1,5 +1,5 @@
-// The blanking call over 01's map, which the plain map call makes, with what 02 has it answer; and at the ends of the ranges: the first and the
-// last line there is, one line, the widest window, the ends of 64 bits.
+// The blanking call over 01's map, which the plain map call makes, with what 02 has it answer; and at the ends of the ranges: the first and
+// the last line there is, one line, the widest window, the ends of 64 bits.
 use crate::comparing;
 use crate::comparing::NO_LINE;
 use crate::kinds;
@@ -7,7 +7,7 @@ use crate::stretches::Asked;
 use scope::Run;
 use trying::numbers;
 use trying::reference::Refusal;
-use trying::reference::plain;
+use trying::reference::alone;
 use trying::tally;
 
 // A run with a window of 4.
@@ -63,19 +63,19 @@ fn says(
 
 // Whether the call is refused with this number and leaves a room of so many numbers.
 fn refused(number: u8, asked: Asked, map: &[u8], size: usize) -> bool {
-    says(plain(number), 0, asked, map, size, [NO_LINE; 6])
+    says(alone(number), 0, asked, map, size, [NO_LINE; 6])
 }
 
 // Whether the stretches of a map, in a room of so many numbers, are this one alone.
 fn lists_one(asked: Asked, map: &[u8], size: usize, first: u32, last: u32) -> bool {
     let expected = [first, last, NO_LINE, NO_LINE, NO_LINE, NO_LINE];
-    says(plain(0), 1, asked, map, size, expected)
+    says(alone(0), 1, asked, map, size, expected)
 }
 
 // Whether the stretches of a map, in a room of so many numbers, are a line alone and then another stretch.
 fn lists_two(asked: Asked, map: &[u8], size: usize, line: u32, first: u32, last: u32) -> bool {
     let expected = [line, line, first, last, NO_LINE, NO_LINE];
-    says(plain(0), 2, asked, map, size, expected)
+    says(alone(0), 2, asked, map, size, expected)
 }
 
 // Threshold 255, guard -2 to 1: lines 2 and 4, in rooms of 4 numbers and more.
@@ -123,8 +123,8 @@ fn try_no_stretch(ledger: &mut [u64], map: &[u8]) {
     let asked = ask(255, 0, 1);
     let line = kinds::NO_STRETCH;
     let room = [NO_LINE; 6];
-    tally::count(ledger, line, says(plain(0), 0, asked, map, 0, room));
-    tally::count(ledger, line, says(plain(0), 0, asked, map, 6, room));
+    tally::count(ledger, line, says(alone(0), 0, asked, map, 0, room));
+    tally::count(ledger, line, says(alone(0), 0, asked, map, 6, room));
 }
 
 // An end of a guard: an end of the window of 4, one offset further out, or as far as 64 bits go.
@@ -207,7 +207,7 @@ fn finds(place: u32) -> bool {
         lowest: -25,
         highest: 24,
     };
-    let none = says(plain(0), 0, asked, &map, 2, [NO_LINE; 6]);
+    let none = says(alone(0), 0, asked, &map, 2, [NO_LINE; 6]);
     numbers::put_byte(&mut map, place as usize, 200);
     none && lists_one(asked, &map, 2, 7, 7)
 }

@@ -3,8 +3,8 @@
 use crate::numbers;
 use crate::reference;
 use crate::reference::Refusal;
+use crate::reference::alone;
 use crate::reference::first_of;
-use crate::reference::plain;
 use crate::reference::when;
 use scope::Run;
 
@@ -148,11 +148,11 @@ fn judge_filling(file: &[u8], block: usize, cells: usize) -> Refusal {
     let start = 512 * block + 4;
     let before = 504 * block;
     if before <= cells {
-        return plain(0);
+        return alone(0);
     }
     let filling = before - cells;
     if 504 < filling {
-        return plain(0);
+        return alone(0);
     }
     when(!zeros(file, start + (504 - filling), start + 504), 15)
 }
@@ -168,7 +168,7 @@ fn judge_blocks(file: &[u8], cells: usize) -> Refusal {
         }
         block += 1;
     }
-    plain(0)
+    alone(0)
 }
 
 // The refusals of reading a file into room for so many cells, in 01's order, with E1's line limits.

@@ -141,6 +141,6 @@ pub fn put_answer(
     if refusal.number != 0 {
         return put_refusal(room, refusal);
     }
-    reference::expect_map(refusal, run, periods, weights, phases, map);
+    reference::expect_added(refusal, run, periods, weights, phases, map);
     put_report(room, run, periods, weights, phases, map)
 }

@@ -55,7 +55,7 @@ fn weight_at(run: Run, periods: &[u32], weights: &[u32], phases: &[u32], cell: u
 
 // Makes a map what it is to be after all sources are added: a walk over all cells. With one source of weight 1, on zeros, it marks
 // the hits. With a refusal the map stays as it is.
-pub fn expect_map(
+pub fn expect_added(
     refusal: Refusal,
     run: Run,
     periods: &[u32],
@@ -91,14 +91,14 @@ pub fn expect_made(
         return;
     }
     numbers::clear(map);
-    expect_map(refusal, run, periods, weights, phases, map);
+    expect_added(refusal, run, periods, weights, phases, map);
 }
 
 // Marks the cells that a source hits. The marks are 0 before.
 pub fn mark(run: Run, source: Source, marks: &mut [u8]) {
     let period = [source.period];
     let phase = [source.phase];
-    expect_map(plain(0), run, &period, &[1], &phase, marks);
+    expect_added(alone(0), run, &period, &[1], &phase, marks);
 }
 
 // How many cells of a map are above 0.
@@ -174,7 +174,7 @@ pub fn file_length(cells: usize) -> usize {
 }
 
 // A refusal that concerns no source; for 0, none at all.
-pub fn plain(number: u8) -> Refusal {
+pub fn alone(number: u8) -> Refusal {
     Refusal { number, place: 0 }
 }
 
@@ -185,7 +185,7 @@ pub fn at_place(number: u8, place: u64) -> Refusal {
 
 // The refusal with a number, if what it is given for is so; else none.
 pub fn when(wrong: bool, number: u8) -> Refusal {
-    if wrong { plain(number) } else { plain(0) }
+    if wrong { alone(number) } else { alone(0) }
 }
 
 // The first of two refusals that is one; none if neither is.
@@ -257,7 +257,7 @@ pub fn judge_sources(periods: &[u32], weights: &[u32], phases: &[u32]) -> Refusa
         }
         k += 1;
     }
-    plain(0)
+    alone(0)
 }
 
 // How many sources of a list are at fault.

@@ -6,7 +6,7 @@ use Rattle.scope.specs.Run.{ceiling}
 use Rattle.sources.specs.Entry.{entriesOf}
 use Rattle.map.specs.Promise.{added}
 use Rattle.map.proofs.Made.{made-added}
-use Rattle.map.proofs.Unique.{passes-whole, new-same}
+use Rattle.map.proofs.Calls.{passes-whole, new-same}
 use Rattle.map.proofs.make_map.Statement.{statement}
 use Rattle.map.proofs.make_map.Tie as tie
 

@@ -10,7 +10,7 @@ use Rattle.scope.proofs.Limits.{passes-first, passes-then, valid-run}
 use Rattle.sources.proofs.Entries.{valid-lists}
 use Rattle.map.specs.Promise.{mapTests}
 use Rattle.map.specs.Inner.{ValidCall}
-use Rattle.map.proofs.Unique.{refused-call, granted-call, passes-whole}
+use Rattle.map.proofs.Calls.{refused-call, granted-call, passes-whole}
 use Rattle.map.proofs.map_call.Statement.{statement}
 use Rattle.map.proofs.map_call.Tie as tie
 

@@ -1,5 +1,5 @@
--- `rooms::clear` meets its contract. The invariant of its loop: the room is written with `at` zeros. The measure is what is left of the length.
--- Assumes nothing.
+-- `rooms::clear` meets its contract. The invariant of its loop: the room is written with `at` zeros. The measure is what is left of the
+-- length. Assumes nothing.
 use Prim.Native.Nat.{ℕ, _-_}
 use native.Mathlib.Omega.{arith}
 use mathlib.Core.Path.{_≡_, _∙_, ap}

@@ -237,8 +237,8 @@ fn any_window(random: &mut Random) -> u32 {
     }
 }
 
-/// Maps of 262,144 cells, or a line less, or up to two lines more. Only above that number are sources added block by block, and
-/// only with periods below 2,048: by turns there is no source, or all have such periods, or none has, or some have.
+/// Maps of as many whole lines as 262,144 cells have, of one less, or of one or two more. Only above that number of cells are sources
+/// added block by block, and only with periods below 2,048: by turns there is no source, or all have such periods, or none, or some.
 #[test]
 fn of_262_144_cells() {
     trials("maps of about 262,144 cells", 48, |random| {

@@ -1,13 +1,13 @@
--- `trying::reference::expect_map` is safe and ends. What is lent keeps its length; the measure is the number of turns left.
+-- `trying::reference::expect_added` is safe and ends. What is lent keeps its length; the measure is the number of turns left.
 use Prim.Native.Nat.{_-_}
 use mathlib.Core.Path.{_≡_}
 use lib.ListN.{length}
 use borrow.Author.Needs.{needs}
-use Rattle.trying.proofs.reference.expect_map.Statement.{statement}
-use Rattle.trying.proofs.reference.expect_map.Tie as tie
+use Rattle.trying.proofs.reference.expect_added.Statement.{statement}
+use Rattle.trying.proofs.reference.expect_added.Tie as tie
 
-pub expect-map-spec : {M : Type 1} → statement M
-expect-map-spec =
+pub expect-added-spec : {M : Type 1} → statement M
+expect-added-spec =
     tie.close
     (tie.spec
     (λ run periods weights phases map₀ all x₀ map x. length map ≡ length map₀)
