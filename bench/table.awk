@@ -8,20 +8,21 @@ BEGIN {
     what["save"] = "save"; what["read"] = "read"; what["blank"] = "blanking list"; what["count"] = "map, instructions"
     print "Every figure but ours is a time divided by ours: above 1, ours is faster. *Naive* takes a remainder on each line, *C*, *clang* and"
     print "*Rust* go the same walk without blocks, *limit* is a `memset` of the map (`memcpy` of the cells for save and read). The time is the"
-    print "processor time of the thread. The interval changes with every call; what a call writes is cleared before it, outside the time, but"
-    print "in the rows *plain map*; all contenders must leave the same bytes. Medians of 5 to 41 repetitions, the ratios taken within a"
-    print "repetition. Periods by a fixed seed: 30 of 3 to 2,000 (mix), 1,000 of 4,096 to 2^20, 1,000 of 4,096 to 2^31. The peers judge nothing"
-    print "that they are given but the blocks of a file and the room of a blanking list; ours judges all of it, within the time. The rows *map*,"
-    print "*map from line 0*, *map with phases* and *map, instructions* are of the adding call, on a lent map. In the rows *plain map* each call"
-    print "finds the map full of 255 and clears it within its time, *naive*, *C*, *clang* and *Rust* by a `memset` before they add; the *limit*"
-    print "is that `memset` alone. The rows *map, instructions* are counts by callgrind, with the set-up, and their ratios are ratios of"
-    print "counts. Runs begin at line 1, where few sources with a long period have a hit; in the rows *map from line 0* every source has one"
-    print "on the first line, so that its vectors are always worked out. All phases are 0 but in the rows *with phases*, where they are any"
-    print "below the periods, by the same seed. In the rows *save* and *read* the column of the periods says how *C* and *clang* work out a"
-    print "block's check, by its weighted sum or in two columns; ours always has the columns, as request E4 wants them. In the rows *blanking"
-    print "list* the column of the periods says how many lines reach the threshold (one of 50 by any cell, or 15 of 16 by one of the guard's"
-    print "first eight) and how much of the window is guarded; *C*, *clang* and *Rust* go over the lines twice as ours does, to count the"
-    print "stretches and to write them, and the *limit* is one pass over the guard cells that have to be looked at, for the largest of each line."
+    print "processor time of the thread. The interval changes with every call; what a call writes is cleared before it, outside the time, but in"
+    print "the rows *plain map*; all contenders must leave the same bytes. Medians of 5 to 41 repetitions, the ratios taken within a repetition"
+    print "(those of *adding and memset* between rows). Periods by a fixed seed: 30 of 3 to 2,000 (mix), 1,000 of 4,096 to 2^20, 1,000 of 4,096"
+    print "to 2^31. The peers judge nothing that they are given but the blocks of a file and the room of a blanking list; ours judges all of it,"
+    print "within the time. The rows *map*, *map from line 0*, *map with phases* and *map, instructions* are of the adding call, on a map of"
+    print "zeros. In the rows *plain map* each call finds the map full of 255 and clears it within its time, *naive*, *C*, *clang* and *Rust* by"
+    print "a `memset` before they add; the *limit* is that `memset` alone. The rows *map, instructions* are counts by callgrind, with the set-up,"
+    print "and their ratios are ratios of counts. Runs begin at line 1, where few sources with a long period have a hit; in the rows *map from"
+    print "line 0* every source has one on the first line, so that its vectors are always worked out. All phases are 0 but in the rows *with"
+    print "phases*, where they are any below the periods, by the same seed. In the rows *save* and *read* the column of the periods says how *C*"
+    print "and *clang* work out a block's check, by its weighted sum or in two columns; ours always has the columns, as request E4 wants them. In"
+    print "the rows *blanking list* the column of the periods says how many lines reach the threshold (one of 50 by any cell, or 15 of 16 by one"
+    print "of the guard's first eight) and how much of the window is guarded; *C*, *clang* and *Rust* go over the lines twice as ours does, to"
+    print "count the stretches and to write them, and the *limit* is one pass over the guard cells that have to be looked at, for the largest of"
+    print "each line."
     print ""
     print "| what | periods | window | MiB | ours | naive | C, gcc -O2 | C, clang -O3 | Rust | limit |"
     print "|---|---|--:|--:|--:|--:|--:|--:|--:|--:|"
@@ -61,7 +62,8 @@ function peers_at_512(text, row, least) {
     aim("Rust / ours, " text, rust[row], least)
 }
 
-# Clearing is to cost a memset at most: our adding call and a memset, over our plain call, all of them by the call.
+# Clearing is to cost a memset at most: our adding call and a memset, over our plain call, by the call; a twentieth is left for the
+# difference between rows.
 function clearing(set, size,    at, k, plain, both) {
     for (k = 1; k <= 3; k++) {
         at = set " " windows[k] " " size

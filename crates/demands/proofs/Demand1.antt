@@ -270,7 +270,7 @@ entries-at-fault entries n place = rw (entries-of entries) at (sources-at-fault 
 -- Where the run and the lengths of the lists are in order, a map call reads "refused n" at a place, n being no 9, exactly if a source
 -- is so at fault: then n is 4, 7 or 22, and the place is that source's.
 pub map-at-fault : (run : Run) (periods weights phases map : List ℕ) {new : List ℕ} (answer : Mapped) (after : List ℕ) → MapCallAt ceiling run periods weights phases map new answer after → Silent (runTable run) → OneLength periods weights phases → (n : ℕ) (place : Place) → n ≢ 9 → (saysMap answer ≡ refused n place) ↔ AtFault periods weights phases n place
-map-at-fault run periods weights phases map {new} answer after h fine equal n place other = Iff·trans (map-refused run periods weights phases map answer after h n place) (Iff·trans (to, from) (sources-at-fault periods weights phases equal n place))
+map-at-fault run periods weights phases map answer after h fine equal n place other = Iff·trans (map-refused run periods weights phases map answer after h n place) (Iff·trans (to, from) (sources-at-fault periods weights phases equal n place))
   where
     sources : List Row
     sources = sourcesTable 1 (entriesOf periods weights phases)

@@ -7,7 +7,7 @@ use native.Mathlib.Nat.{zero-add}
 use native.Mathlib.Decide.{ℕ-discrete}
 use native.Mathlib.Omega.{arith}
 use mathlib.Core.Path.{_≡_, refl, sym, ap, _∙_}
-use mathlib.Core.Bool.{Bool, true, false, cond, not}
+use mathlib.Core.Bool.{Bool, true, false, cond}
 use mathlib.Core.List.{List, [], _∷_, _++_, append-nil, List·Permᴰ, List·Permᴰ·nil, List·Permᴰ·cons, List·Permᴰ·swap, List·Permᴰ·trans, Permᴰ·refl}
 use lib.ListN.{length, getD, set, length-set}
 use lib.Seq.{getD-set-same, getD-set-other}
@@ -16,8 +16,7 @@ use Rattle.scope.specs.declared.Run.{Run}
 use Rattle.scope.specs.Run.{ValidRun, ceiling, UpTo, cellsOf}
 use Rattle.scope.specs.Hit.{isHit}
 use Rattle.sources.specs.Entry.{Entry}
-use Rattle.scope.proofs.Judged.{Passes, sound, both}
-use Rattle.scope.proofs.Limits.{valid-run-passes}
+use Rattle.scope.proofs.Judged.{Passes}
 use Rattle.scope.proofs.Hits.{hit-hits}
 use Rattle.map.specs.declared.Mapped.{Mapped}
 use Rattle.map.specs.declared.Mapped.the-variants.{Done}
@@ -26,7 +25,7 @@ use Rattle.map.specs.Promise.{mapTests, weightAt, added, AddingPromiseAt}
 use Rattle.sources.specs.Lists.{periodsOf, weightsOf, phasesOf, ValidEntries}
 use Rattle.sources.proofs.Entries.{valid-entries-pass, valid-lists, entries-of, one-length}
 use Rattle.map.proofs.Entries.{weight-shift, added-append, added-none, added-same, added-length, added-within, added-getD}
-use Rattle.map.proofs.Calls.{granted-call, stores-new}
+use Rattle.map.proofs.Calls.{granted-call, stores-new, call-passes}
 use Rattle.demands.specs.FirstHit.{HitsCell}
 use Rattle.demands.specs.Cut.{Cut}
 use Rattle.demands.specs.Adding.{together, Maps, Call, Keep, leave, addedTo, NoneRefused, History, Adds}
@@ -77,17 +76,15 @@ module _ (c : ℕ) where
   -- ---- a call's lists
 
   -- nothing is wrong with a call of entries within the limits on a map of the exact length
-  call-passes : {block : Run} (entries : List Entry) (map : List ℕ) → ValidRun block → ValidEntries c entries → length map ≡ cellsOf block → Passes (mapTests c block (periodsOf entries) (weightsOf entries) (phasesOf entries) map)
-  unfolding mapTests
-  call-passes entries map v w e =
-      both
-      (both (valid-run-passes v) (valid-lists c (periodsOf entries) (weightsOf entries) (phasesOf entries) .1 (one-length entries, rw (entries-of entries) (valid-entries-pass c 1 entries w))))
-      (sound (ap not (eq-eqb _ _ e)))
+  entries-pass : {block : Run} (entries : List Entry) (map : List ℕ) → ValidRun block → ValidEntries c entries → length map ≡ cellsOf block → Passes (mapTests c block (periodsOf entries) (weightsOf entries) (phasesOf entries) map)
+  entries-pass {block} entries map v w e =
+      let lists = valid-lists c (periodsOf entries) (weightsOf entries) (phasesOf entries) .1 (one-length entries, rw (entries-of entries) (valid-entries-pass c 1 entries w)) in
+      call-passes c block (periodsOf entries) (weightsOf entries) (phasesOf entries) map v lists e
 
   -- such a call, if it keeps its promise, is not refused and adds its entries
   call-adds : {block : Run} (entries : List Entry) {map : List ℕ} {answer : Mapped} {after : List ℕ} → ValidRun block → ValidEntries c entries → length map ≡ cellsOf block → AddingPromiseAt c block (periodsOf entries) (weightsOf entries) (phasesOf entries) map answer after → (answer ≡ Done) × (after ≡ added c block entries map)
   call-adds {block} entries {map} {answer} {after} v w e m =
-      let got = stores-new (call-passes entries map v w e) m in
+      let got = stores-new (entries-pass entries map v w e) m in
       (got .0, got .1 ∙ ap (λ (l : List Entry). added c block l map) (entries-of entries))
 
   -- ---- a history, call after call
@@ -251,7 +248,7 @@ module _ (c : ℕ) where
       let block = getD blocks n run in
       let map = getD maps n [] in (
         omega arith,
-        granted-call (call-passes sources map (valid n (omega arith)) w (state .sized n (omega arith))) (ap (λ (l : List Entry). added c block l map) (sym (entries-of sources))),
+        granted-call (entries-pass sources map (valid n (omega arith)) w (state .sized n (omega arith))) (ap (λ (l : List Entry). added c block l map) (sym (entries-of sources))),
         keep-each run blocks valid sources w n (set maps n (call .after)) (omega arith) (next-state run blocks valid call maps state (omega arith) refl),
       )
 

@@ -3,14 +3,12 @@ use Prim.Native.Nat.{ℕ, zero, suc, _+_, _≤_, _<_}
 use native.Mathlib.Nat.{zero-add}
 use native.Mathlib.Omega.{arith}
 use mathlib.Core.Path.{_≡_, refl, sym, ap, ap₂, _∙_}
-use mathlib.Core.Bool.{not}
 use mathlib.Core.Logic.{_⊎_, inl, inr}
 use mathlib.Core.List.{List, [], _∷_, _++_}
 use mathlib.Core.Option.{none}
 use lib.ListN.{length, getD, length-append, replicate-append-replicate}
-use borrow.Author.Tests.{eq-eqb}
 use Rattle.rooms.specs.Lists.{UpTo, zeros}
-use Rattle.rooms.proofs.Lists.{length-zeros}
+use Rattle.rooms.proofs.Lists.{length-zeros, zero-at}
 use Rattle.scope.specs.declared.Run.{Run}
 use Rattle.scope.specs.declared.RunCell.{RunCell}
 use Rattle.scope.specs.Run.{ValidRun, cellsOf}
@@ -18,7 +16,7 @@ use Rattle.scope.specs.declared.Reason.{Reason}
 use Rattle.scope.specs.declared.Place.{Place}
 use Rattle.scope.specs.Refusal.{Complaint, complaint}
 use Rattle.scope.specs.Reply.{reply}
-use Rattle.scope.proofs.Judged.{Passes, Fails, sound, first, then, both}
+use Rattle.scope.proofs.Judged.{Passes, Fails, first, then}
 use Rattle.scope.proofs.Rendered.{judged}
 use Rattle.scope.proofs.Limits.{valid-run-passes}
 use Rattle.scope.proofs.Numbering.{valid-block}
@@ -29,19 +27,13 @@ use Rattle.map.specs.Sum.{capped}
 use Rattle.map.specs.Promise.{mapTests, weightAt, added, made, saysMap, MakingPromiseAt, AddingPromiseAt}
 use Rattle.map.proofs.Entries.{added-none, added-getD}
 use Rattle.map.proofs.Made.{made-added, made-length}
-use Rattle.map.proofs.Calls.{says-map-injective, stores-new, done-passes, done-leaves, refused-leaves, passes-whole, answers-alike, whatever-held}
+use Rattle.map.proofs.Calls.{says-map-injective, stores-new, done-passes, done-leaves, refused-leaves, call-passes, passes-whole, answers-alike, whatever-held}
 use Rattle.map.proofs.Unique.{call-unique, call-exists}
 use Rattle.demands.specs.Cut.{CutFrom, Cut}
 use Rattle.demands.specs.Adding.{together, Maps}
 use Rattle.demands.specs.Making.{BlockMap, BlockMaps, lentsOf, aftersOf, EachAnswers}
 use Rattle.demands.proofs.Cuts.{piece-is}
 use Rattle.demands.proofs.CutMaps.{cut-cells, joined-added}
-
-zero-at : (n i : ℕ) → getD (zeros n) i 0 ≡ 0
-unfolding zeros
-zero-at zero i = refl
-zero-at (suc n) zero = refl
-zero-at (suc n) (suc i) = zero-at n i
 
 module _ {c : ℕ} {run : Run} {periods weights phases : List ℕ} where
   -- "the plain call equals it on a map of zeros": on every input the same reply; not refused, the same cells; refused, each leaves
@@ -60,19 +52,22 @@ module _ {c : ℕ} {run : Run} {periods weights phases : List ℕ} where
           let cells : made c run entries ≡ added c run entries (zeros (length map)) = made-added c run entries ∙ ap (λ k. added c run entries (zeros k)) (sym whole) in
           done-leaves (rw e at m) ∙ cells ∙ sym (done-leaves (rw (sym same ∙ e) at n))
 
-  -- Every cell of a map that was made holds the weights of all its hits, or the ceiling if that is more.
-  pub made-every-cell : {map after : List ℕ} → MakingPromiseAt c run periods weights phases map Done after → (y : RunCell) → y .0 < cellsOf run → getD after (y .0) 0 ≡ capped c (weightAt run (entriesOf periods weights phases) (y .0))
-  made-every-cell m y inside =
+  -- A map that was made has the run's cells, and each holds the weights of all its hits, or the ceiling if that is more.
+  pub made-every-cell : {map after : List ℕ} → MakingPromiseAt c run periods weights phases map Done after → (length after ≡ cellsOf run) × ((y : RunCell) → y .0 < cellsOf run → getD after (y .0) 0 ≡ capped c (weightAt run (entriesOf periods weights phases) (y .0)))
+  made-every-cell m =
       let entries = entriesOf periods weights phases in
-      let start = zeros (cellsOf run) in
-      ap (λ cells. getD cells (y .0) 0) (done-leaves m ∙ made-added c run entries)
-      ∙ added-getD c run entries start (y .0) (omega (arith, length-zeros (cellsOf run)))
-      ∙ ap (λ old. capped c (old + weightAt run entries (y .0))) (zero-at (cellsOf run) (y .0))
-      ∙ ap (capped c) (zero-add _)
+      let start = zeros (cellsOf run) in (
+        ap length (done-leaves m) ∙ made-length c run entries,
+        λ y inside.
+            ap (λ cells. getD cells (y .0) 0) (done-leaves m ∙ made-added c run entries)
+            ∙ added-getD c run entries start (y .0) (omega (arith, length-zeros (cellsOf run)))
+            ∙ ap (λ old. capped c (old + weightAt run entries (y .0))) (zero-at (cellsOf run) (y .0))
+            ∙ ap (capped c) (zero-add _),
+      )
 
   -- "shall clear first": two maps as long, made with the same run and sources, get the same reply, whatever each held, and not refused they
   -- are then the same map.
-  pub made-alike : {map other : List ℕ} {a b : Mapped} {after then : List ℕ} → length map ≡ length other → MakingPromiseAt c run periods weights phases map a after → MakingPromiseAt c run periods weights phases other b then → (a ≡ b) × (a ≡ Done → after ≡ then)
+  pub made-alike : {map other : List ℕ} {a b : Mapped} {after after′ : List ℕ} → length map ≡ length other → MakingPromiseAt c run periods weights phases map a after → MakingPromiseAt c run periods weights phases other b after′ → (a ≡ b) × (a ≡ Done → after ≡ after′)
   made-alike {a = a} {b} e m n =
       let same : a ≡ b = answers-alike c run periods weights phases e m n in
       (same, λ d. done-leaves (rw d at m) ∙ sym (done-leaves (rw (sym same ∙ d) at n)))
@@ -97,7 +92,7 @@ unfolding mapTests
 only-lists c {run} periods weights phases map v whole = go (judged (sourceListsTests c periods weights phases))
   where
     go : Passes (sourceListsTests c periods weights phases) ⊎ ((b : Complaint) × Fails (sourceListsTests c periods weights phases) (b .reason) (b .place)) → complaint (mapTests c run periods weights phases map) ≡ complaint (sourceListsTests c periods weights phases)
-    go (inl p) = both (both (valid-run-passes v) p) (sound (ap not (eq-eqb _ _ whole))) .is ∙ sym (p .is)
+    go (inl p) = call-passes c run periods weights phases map v p whole .is ∙ sym (p .is)
     go (inr f) = first (then (valid-run-passes v) (f .1)) .is ∙ sym (f .1 .is)
 
 no-lists : (c : ℕ) → complaint (sourceListsTests c [] [] []) ≡ none

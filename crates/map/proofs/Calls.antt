@@ -7,15 +7,16 @@ use mathlib.Core.Logic.{_⊎_, inl, inr}
 use mathlib.Core.List.{List}
 use lib.Dec.{eqb}
 use lib.ListN.{length}
+use borrow.Author.Tests.{eq-eqb}
 use Rattle.scope.specs.declared.Run.{Run}
-use Rattle.scope.specs.Run.{cellsOf}
+use Rattle.scope.specs.Run.{ValidRun, cellsOf}
 use Rattle.scope.specs.Refusal.{Complaint, complaint, _when_, _andThen_, runTests}
 use Rattle.scope.specs.declared.Reason.{Reason}
 use Rattle.scope.specs.declared.Reason.the-variants.{Room}
 use Rattle.scope.specs.declared.Place.{Place}
-use Rattle.scope.specs.Reply.{answered, reply, stored}
-use Rattle.scope.proofs.Judged.{Fails, Passes, same-refusal, refuse-reply, refuse-stored, grant-reply, grant-stored, said-answered, said-refused}
-use Rattle.scope.proofs.Limits.{passes-then}
+use Rattle.scope.specs.Reply.{reply, stored}
+use Rattle.scope.proofs.Judged.{Fails, Passes, sound, both, same-refusal, refuse-reply, refuse-stored, grant-reply, grant-stored, said-answered, said-refused}
+use Rattle.scope.proofs.Limits.{passes-then, valid-run-passes}
 use Rattle.scope.proofs.Differs.{same}
 use Rattle.scope.proofs.Rendered.{judged}
 use Rattle.sources.specs.Entry.{sourceListsTests}
@@ -39,7 +40,7 @@ module _ {c : ℕ} {run : Run} {periods weights phases map new : List ℕ} where
   pub granted-call : {after : List ℕ} → Passes (mapTests c run periods weights phases map) → after ≡ new → MapCallAt c run periods weights phases map new Done after
   granted-call p e = record { says = grant-reply tt p; stores = e ∙ grant-stored map new p }
 
-  -- what the tests' passing makes of the call
+  -- a call that passes its tests is done and leaves the new cells
   pub stores-new : {answer : Mapped} {after : List ℕ} → Passes (mapTests c run periods weights phases map) → MapCallAt c run periods weights phases map new answer after → (answer ≡ Done) × (after ≡ new)
   stores-new {answer} p m = (says-map-injective answer Done (m .says ∙ sym (grant-reply tt p)), m .stores ∙ sym (grant-stored map new p))
 
@@ -64,6 +65,11 @@ module _ {c : ℕ} {run : Run} {periods weights phases map new : List ℕ} where
 -- ---- of the map lent the tests look at the length alone
 
 module _ (c : ℕ) (run : Run) (periods weights phases : List ℕ) where
+  -- they are passed where the run is valid, the lists pass theirs and the map is of the run's length
+  pub call-passes : (map : List ℕ) → ValidRun run → Passes (sourceListsTests c periods weights phases) → length map ≡ cellsOf run → Passes (mapTests c run periods weights phases map)
+  unfolding mapTests
+  call-passes map v lists whole = both (both (valid-run-passes v) lists) (sound (ap not (eq-eqb _ _ whole)))
+
   -- a call that passes them has a map of the run's length
   pub passes-whole : (map : List ℕ) → Passes (mapTests c run periods weights phases map) → length map ≡ cellsOf run
   unfolding mapTests

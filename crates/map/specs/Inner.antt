@@ -36,7 +36,7 @@ abbrev pub startOf : Start → List ℕ → List ℕ
 startOf Clean map = zeros (length map)
 startOf AsLent map = map
 
--- What both calls keep by a common step: the new cells are what the sources make of what the map starts from.
+-- What `map_call` keeps: the new cells are what the sources make of what the map starts from.
 abbrev pub CallFrom : Start → Run → (periods weights phases map : List ℕ) → Mapped → List ℕ → Type 0
 CallFrom start run periods weights phases map answer after = MapCallAt ceiling run periods weights phases map (added ceiling run (entriesOf periods weights phases) (startOf start map)) answer after
 

@@ -209,8 +209,8 @@ fn block_from(run: Run, first: u32, lines: u32) -> Run
     }
 }
 
-// Adds the sources with period < high to what the map of a run starts from, one block of so many lines after the other. A block is
-// cleared when its turn comes, so that it is still in the cache when the sources are added to it.
+// Adds the sources with period < high to what the map of a run starts from, one block of so many lines after the other. For a
+// clean start a block is cleared when its turn comes, so that it is still in the cache when the sources are added to it.
 fn add_blocks(
     run: Run,
     periods: &[u32],

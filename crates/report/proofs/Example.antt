@@ -6,7 +6,6 @@ use mathlib.Core.List.{List, [], _∷_}
 use mathlib.Core.Option.{some}
 use lib.ListN.{take}
 use Rattle.decimal.specs.Digits.{digitsWithin, digits}
-use Rattle.rooms.specs.Lists.{zeros}
 use Rattle.rooms.proofs.Lists.{up-to}
 use Rattle.scope.specs.Run.{runWith, linesOf, cellsOf, lineOf, offsetOf}
 use Rattle.scope.specs.Hit.{instant, isHit, hitsAmong, hitsFrom}
@@ -59,7 +58,7 @@ phased-spelled = record {
 
 -- what is printed of them
 reported : (reportOf (some example) ≡ exampleOutput) × (reportOf (some phased) ≡ phasedOutput)
-unfolding exampleOutput phasedOutput reportOf printed wholeReport runReport srcReport entryReport cellsReport mapReport endReport reportedMap cellReport above zeros line fields digits digitsWithin textTests runTests windowTests lineTests periodTests weightTests phaseTests entryTests listTests complaint made summed weightAt hitsFrom hitsAmong isHit instant lineOf offsetOf cellsOf linesOf
+unfolding exampleOutput phasedOutput reportOf printed wholeReport runReport srcReport entryReport cellsReport mapReport endReport reportedMap cellReport above line fields digits digitsWithin textTests runTests windowTests lineTests periodTests weightTests phaseTests entryTests listTests complaint made summed weightAt hitsFrom hitsAmong isHit instant lineOf offsetOf cellsOf linesOf
 reported = (refl, refl)
 
 -- An output that fits an input which says this prints what is printed of it.

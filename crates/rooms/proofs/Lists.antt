@@ -4,7 +4,7 @@ use mathlib.Core.Path.{_≡_, refl, sym, ap, _∙_}
 use mathlib.Core.List.{List, [], _∷_, _++_}
 use native.Mathlib.Decide.{decLe}
 use native.Mathlib.Omega.{arith}
-use lib.ListN.{length, take, drop, length-take, length-append, length-replicate}
+use lib.ListN.{length, getD, take, drop, length-take, length-append, length-replicate}
 use lib.Seq.{take-take, take-all, take-nil, take-at}
 use Rattle.rooms.specs.Lists.{UpTo, zeros, padded}
 
@@ -53,6 +53,12 @@ unfolding zeros
 drop-zeros zero n = let e : n ≡ n - 0 = omega arith in ap zeros e
 drop-zeros (suc k) zero = let e : 0 ≡ 0 - suc k = omega arith in ap zeros e
 drop-zeros (suc k) (suc n) = let e : n - k ≡ suc n - suc k = omega arith in drop-zeros k n ∙ ap zeros e
+
+pub zero-at : (n i : ℕ) → getD (zeros n) i 0 ≡ 0
+unfolding zeros
+zero-at zero i = refl
+zero-at (suc n) zero = refl
+zero-at (suc n) (suc i) = zero-at n i
 
 -- ---- a list filled up with zeros
 

@@ -57,7 +57,7 @@ fn map_of_sources(case: Case, map: &mut [u8], state: u64) {
     );
 }
 
-// Draws the map of a case: of random values, of few, of very few, or of sources. Where the map call refuses it stays as it was.
+// Draws the map of a case: of random values, of few, of very few, or of sources. Where the plain map call refuses, the map stays.
 pub fn draw_map(case: Case, map: &mut [u8], state: u64) {
     match state >> 5 & 3 {
         0 => draw_values(map, 1, state),

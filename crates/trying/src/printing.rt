@@ -128,7 +128,7 @@ fn put_refusal(room: &mut [u8], refusal: Refusal) -> usize {
     put_words(room, place, b"\n")
 }
 
-// Puts what is to be reported on a text: its refusal, or its run and sources with their map, which is of zeros before.
+// Puts what is to be reported on a text: its refusal, or its run and sources with their map.
 pub fn put_answer(
     room: &mut [u8],
     refusal: Refusal,
@@ -141,6 +141,6 @@ pub fn put_answer(
     if refusal.number != 0 {
         return put_refusal(room, refusal);
     }
-    reference::expect_added(refusal, run, periods, weights, phases, map);
+    reference::expect_made(refusal, run, periods, weights, phases, map);
     put_report(room, run, periods, weights, phases, map)
 }

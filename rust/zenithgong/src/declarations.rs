@@ -113,8 +113,8 @@ extern "C" {
         map_length: usize,
     ) -> MappedReply;
 
-    /// Adds onto a lent map, which does not start clean: every cell keeps what it held and gains the weights of all sources that
-    /// hit it, up to 255; empty lists leave the map as it was.
+    /// The adding call: adds onto a lent map, which does not start clean: every cell keeps what it held and gains the weights of all
+    /// sources that hit it, up to 255; empty lists leave the map as it was. Refused as the plain call is, and then nothing is added.
     pub fn zenithgong_add_to_map(
         window: u32,
         interval: u32,

@@ -54,12 +54,10 @@ impl Call {
     }
 }
 
-/// Both calls, each on a copy of the map, held to the reference; and what they say, which is the same.
+/// Both calls, each on a copy of the map, held to the reference, which judges both alike; and what they say.
 pub fn compare(run: Run, lists: &Lists, map: &[u8], by_line: bool) -> Reply<()> {
-    let made = Call::Make.compare(run, lists, map, by_line).map(drop);
-    let added = Call::Add.compare(run, lists, map, by_line).map(drop);
-    assert_eq!(made, added, "{:?}, {:?}", run, lists);
-    made
+    Call::Make.compare(run, lists, map, by_line).ok();
+    Call::Add.compare(run, lists, map, by_line).map(drop)
 }
 
 /// What a map call is given: any run, sources most often within the limits, and a random map most often of the run's length.
@@ -97,6 +95,8 @@ fn made_or_added_onto_zeros() {
         let (mut made, mut added) = (map.clone(), vec![0; map.len()]);
         let said = Call::Make.ours(run, &lists, &mut made);
         assert_eq!(Call::Add.ours(run, &lists, &mut added), said);
+        let zeros = vec![0; map.len()];
+        assert!(said.is_ok() || added == zeros, "{:?}, {:?}", run, lists);
         let expected = if said.is_ok() { added } else { map };
         assert!(made == expected, "{:?}, {:?}", run, lists);
     });
