@@ -24,11 +24,12 @@ BlockMaps c periods weights phases (block ∷ blocks) (map ∷ maps) =
     MakingPromiseAt c block periods weights phases (map .lent) (map .answer) (map .after) ×
     BlockMaps c periods weights phases blocks maps
 
--- The blocks' maps as they were lent, and as they are afterwards, in line order.
+-- The blocks' maps as they were lent, in line order.
 abbrev pub lentsOf : List BlockMap → List (List ℕ)
 lentsOf [] = []
 lentsOf (map ∷ maps) = map .lent ∷ lentsOf maps
 
+-- And as they are afterwards.
 abbrev pub aftersOf : List BlockMap → List (List ℕ)
 aftersOf [] = []
 aftersOf (map ∷ maps) = map .after ∷ aftersOf maps
