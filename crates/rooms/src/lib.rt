@@ -1,6 +1,8 @@
 // Lent rooms: cleared, copied into, a number stored, bytes written one after the other; and numbers: the smaller, the larger, a byte
 // widened.
 // Every function is proved. No function here is a public operation: each is an inner step of the crates above.
+#![tactic(auto)]
+
 ghost use Rattle.std.specs.Prelude.{◌+◌, ◌≤◌, min, max, ◌≡◌, length, set};
 ghost use Rattle.rooms.specs.Lists.{zeros};
 ghost use Rattle.rooms.specs.Inner.{Written};
