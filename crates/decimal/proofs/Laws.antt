@@ -11,7 +11,7 @@ use lib.ListN.{length, get_or, length-append, get_or-append}
 use lib.Dec.{leb}
 use borrow.Author.Tests.{lt-ltb, le-ltb, leb-true, le-leb}
 use Rattle.decimal.specs.Digits.{largest, digits, digits_within}
-use Rattle.decimal.specs.Inner.{is_digit_lem, begins_with_digit}
+use Rattle.decimal.specs.Inner.{is_digit, begins_with_digit}
 
 -- ---- the smallest and the largest number of a text
 
@@ -144,17 +144,17 @@ digits_injective m n e = sym (value_digits m) ∙ ap value e ∙ value_digits n
 -- every byte is a digit
 abbrev pub AllDigits : List ℕ → Type 0
 AllDigits [] = Unit {0}
-AllDigits (b ∷ bs) = (is_digit_lem b ≡ true) × AllDigits bs
+AllDigits (b ∷ bs) = (is_digit b ≡ true) × AllDigits bs
 
 -- a digit is a byte from 48 to 57
-pub is_digit_lem : (b : ℕ) → 48 ≤ b → b ≤ 57 → is_digit_lem b ≡ true
+pub is_digit_lem : (b : ℕ) → 48 ≤ b → b ≤ 57 → is_digit b ≡ true
 is_digit_lem b l h = rw (le-leb 48 b l, le-leb b 57 h)
 
 both : (x y : Bool) → (x && y) ≡ true → (x ≡ true) × (y ≡ true)
 both true y e = (refl, e)
 both false y e = absurd (false≢true e)
 
-pub digit_bounds : (b : ℕ) → is_digit_lem b ≡ true → (48 ≤ b) × (b ≤ 57)
+pub digit_bounds : (b : ℕ) → is_digit b ≡ true → (48 ≤ b) × (b ≤ 57)
 digit_bounds b e = let p = both (leb 48 b) (leb b 57) e in (leb-true 48 b p.0, leb-true b 57 p.1)
 
 pub all_append : (xs ys : List ℕ) → AllDigits xs → AllDigits ys → AllDigits (xs ++ ys)

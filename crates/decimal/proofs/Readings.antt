@@ -11,7 +11,7 @@ use native.Mathlib.Omega.{arith}
 use lib.ListN.{length, get_or, drop, length-append, drop_of_length-le}
 use lib.Seq.{drop-cons, drop-drop, drop-append_seam}
 use Rattle.decimal.specs.Digits.{largest, digits}
-use Rattle.decimal.specs.Inner.{is_digit_lem, begins_with_digit, NumberStands, Reading}
+use Rattle.decimal.specs.Inner.{is_digit, begins_with_digit, NumberStands, Reading}
 use Rattle.decimal.specs.declared.Number.{Number}
 use Rattle.decimal.specs.declared.Number.TheVariants.{Value, Bad}
 use Rattle.decimal.proofs.Laws.{
@@ -49,7 +49,7 @@ pub record Digit (text : List ℕ) (at d : ℕ) : Type 0 where
 pub begins_past : (text : List ℕ) (at : ℕ) → length text ≤ at → begins_with_digit (drop at text) ≡ false
 begins_past text at h = rw (drop_of_length-le text h)
 
-pub begins_at : (text : List ℕ) (at : ℕ) → at < length text → begins_with_digit (drop at text) ≡ is_digit_lem (get_or text at 0)
+pub begins_at : (text : List ℕ) (at : ℕ) → at < length text → begins_with_digit (drop at text) ≡ is_digit (get_or text at 0)
 begins_at text at h = ap begins_with_digit (drop-cons text at 0 h)
 
 -- where a text begins with a digit, that is the byte there less 48

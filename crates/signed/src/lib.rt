@@ -1,5 +1,7 @@
 // The integers, as the crates above need them: the size of one, and laws of them all.
 // proofs/ has differences and parts, which carry a fact over the integers to one over the natural numbers.
+#![tactic(auto)]
+
 ghost use Rattle.std.specs.Prelude.{◌≡◌, nat_abs};
 
 // Inner step. The size of x, without its sign.
