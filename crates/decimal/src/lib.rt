@@ -1,5 +1,7 @@
 // Numbers as text, in decimal: written into a lent room, and read from a text.
 // Every function here is proved. The public ones are inner steps of what reads and writes whole texts.
+#![tactic(auto)]
+
 ghost use Rattle.std.specs.Prelude.{◌+◌, ◌≤◌, ◌<◌, ◌≡◌, [], ◌∷◌, length, drop};
 ghost use Rattle.rooms.specs.Inner.{Written};
 ghost use Rattle.decimal.specs.Digits.{digits};

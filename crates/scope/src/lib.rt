@@ -1,5 +1,7 @@
 // Runs, cells, sources and their limits: document 01's words as types, and the tests that every call begins with.
 // Every function is proved. No function here is a public operation: each is an inner step of the crates above.
+#![tactic(auto)]
+
 ghost use Rattle.std.specs.Prelude.{◌≡◌, ◌≤◌};
 ghost use Rattle.scope.specs.Run.{ValidRun, cells_of, shift_of, to_run};
 ghost use Rattle.scope.specs.Inner.{IsBlock, to_block, first_of, at_source, verdict};

@@ -1,6 +1,6 @@
 -- `decimal::write_number` meets its contract: what the inner call wrote and the last digit are two pieces one after the other.
 -- Assumes nothing.
-use Rattle.std.proofs.Common.{◌∙◌, arith}
+use Rattle.std.proofs.Common.{arith}
 use Rattle.decimal.proofs.Laws.{digits_one, digits_more, length_one, length_more}
 use Rattle.rooms.proofs.Written.{written_append}
 use Rattle.decimal.proofs.+write_number.Goals as goal

@@ -1,7 +1,6 @@
 -- `decimal::digit_at` meets its contract: past the end a text is empty, and before it, it begins with the byte there.
 -- Assumes nothing.
 use mathlib.Core.Path.{sym, ◌∙◌}
-use borrow.Author.Rules.{rules}
 use borrow.Author.Tests.{le-leb, lt-leb}
 use Rattle.decimal.proofs.Readings.{begins_past, begins_at}
 use Rattle.decimal.proofs.digit_at.Goals as goal

@@ -3,10 +3,8 @@
 use Prim.Native.Nat.{ℕ, ◌-◌}
 use mathlib.Core.Path.{◌≡◌, refl, sym, ◌∙◌}
 use native.Mathlib.Omega.{arith}
-use borrow.Author.Rules.{rules}
-use borrow.Author.Tests.{not-true, not-false}
-use lib.ListN.{length, get_or}
-use Rattle.decimal.proofs.Readings.{Passed, Digit, digit, passed_first, passed_more, passed_ends, no_digit, leading_zero, too_large}
+use lib.ListN.{get_or}
+use Rattle.decimal.proofs.Readings.{Digit, digit, passed_first, passed_more, passed_ends, no_digit, leading_zero, too_large}
 use Rattle.decimal.proofs.read_number.Goals as goal
 use Rattle.decimal.proofs.read_number.Goals.{After-wide, Else-not-digit_at, In-loop-at}
 

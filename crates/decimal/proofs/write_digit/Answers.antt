@@ -1,6 +1,5 @@
 -- `decimal::write_digit` meets its contract: it stores one byte.
 -- Assumes nothing.
-use borrow.Author.Rules.{rules}
 use Rattle.rooms.proofs.Written.{written_one}
 use Rattle.decimal.proofs.write_digit.Goals as goal
 
