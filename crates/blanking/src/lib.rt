@@ -10,21 +10,21 @@ ghost use Rattle.blanking.specs.Inner.{Within, Guarded, Reaches, Largest, NextLi
 use scope::{Place, Reason, Run, Verdict};
 
 // A guard part of the window: its lowest and its highest offset, which both belong to it.
-#[derive(Drop)]
+#[derive(Clone, Copy)]
 pub struct Guard {
     pub lowest: i64,
     pub highest: i64,
 }
 
 // A stretch of consecutive lines: its first and its last, which both belong to it.
-#[derive(Drop)]
+#[derive(Clone, Copy)]
 pub struct Stretch {
     pub first: u32,
     pub last: u32,
 }
 
 // The reply of the blanking call.
-#[derive(Drop)]
+#[derive(Clone, Copy)]
 pub enum Blanking {
     // So many stretches there are, and all of them were written.
     Done(usize),

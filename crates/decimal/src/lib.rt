@@ -11,7 +11,7 @@ ghost use Rattle.decimal.specs.Inner.{begins_with_digit, Reading};
 const LARGEST: u64 = 4_294_967_295;
 
 // What reading a number finds.
-#[derive(Drop)]
+#[derive(Clone, Copy)]
 pub enum Number {
     // A number, and where it ends.
     Value(u32, usize),

@@ -10,7 +10,7 @@ ghost use Rattle.hits.specs.Inner.{ListsFrom};
 use scope::{Place, Reason, Run, RunCell, Source, Verdict};
 
 // The reply of the first-hit call.
-#[derive(Drop)]
+#[derive(Clone, Copy)]
 pub enum FirstHit {
     // The smallest hit cell not below the start.
     At(RunCell),
@@ -21,7 +21,7 @@ pub enum FirstHit {
 }
 
 // The reply of the listing call.
-#[derive(Drop)]
+#[derive(Clone, Copy)]
 pub enum Listing {
     // So many hits were written, and none is left.
     Done(usize),

@@ -13,7 +13,7 @@ use scope::{BlockCell, CEILING, Place, Reason, Run, Source, Verdict};
 use walk::{LineHit, Walk};
 
 // The reply of a map call.
-#[derive(Drop)]
+#[derive(Clone, Copy)]
 pub enum Mapped {
     // Every cell holds its new value.
     Done,
@@ -22,7 +22,7 @@ pub enum Mapped {
 }
 
 // What the sources are added to.
-#[derive(Drop)]
+#[derive(Clone, Copy)]
 enum Start {
     // A clean map, whatever the cells hold.
     Clean,

@@ -17,7 +17,7 @@ use fileblocks::{
 use scope::{Place, Reason, Run, Verdict};
 
 // What saving a map came to.
-#[derive(Drop)]
+#[derive(Clone, Copy)]
 pub enum Saved {
     // The file was written.
     Done,
@@ -26,7 +26,7 @@ pub enum Saved {
 }
 
 // What reading a file came to.
-#[derive(Drop)]
+#[derive(Clone, Copy)]
 pub enum Loaded {
     // The map was filled; it belongs to this run.
     Of(Run),

@@ -11,7 +11,7 @@ ghost use Rattle.scope.specs.Refusal.{number, complaint, window_tests, line_test
 pub const CEILING: u8 = 255;
 
 // A run: the window's width and the interval in ticks, the first and the last line. Lines run from 0.
-#[derive(Drop)]
+#[derive(Clone, Copy)]
 pub struct Run {
     pub window: u32,
     pub interval: u32,
@@ -20,22 +20,22 @@ pub struct Run {
 }
 
 // A source, less its weight: it has an edge at its phase, and whole periods before and after it.
-#[derive(Drop)]
+#[derive(Clone, Copy)]
 pub struct Source {
     pub period: u32,
     pub phase: u32,
 }
 
 // A cell number of the run that a call is about; where the call is about a block, that block is its run.
-#[derive(Drop)]
+#[derive(Clone, Copy)]
 pub struct RunCell(pub u64);
 
 // A cell number of a block of that run, counted from the block's first line on.
-#[derive(Drop)]
+#[derive(Clone, Copy)]
 pub struct BlockCell(pub u64);
 
 // Why a call is refused: the table of refusal numbers, each row by what is wrong.
-#[derive(Drop)]
+#[derive(Clone, Copy)]
 pub enum Reason {
     // The window is odd, below 2 or above 4,096.
     Window,
@@ -80,7 +80,7 @@ pub enum Reason {
 }
 
 // What a refusal concerns.
-#[derive(Drop)]
+#[derive(Clone, Copy)]
 pub enum Place {
     // No source of a list.
     Nowhere,
@@ -89,7 +89,7 @@ pub enum Place {
 }
 
 // What the tests of a call, or some of them, came to.
-#[derive(Drop)]
+#[derive(Clone, Copy)]
 pub enum Verdict {
     // No test was failed.
     Fine,

@@ -12,14 +12,14 @@ use signed::size;
 use vectors::{Vector, first_two, next};
 
 // A point of a source: its distance from the window's left edge, to the right, and its line.
-#[derive(Drop)]
+#[derive(Clone, Copy)]
 pub struct Point {
     pub distance: u64,
     pub line: u64,
 }
 
 // What a search comes to.
-#[derive(Drop)]
+#[derive(Clone, Copy)]
 pub enum Found {
     // The first point within the window.
     At(Point),

@@ -1,5 +1,7 @@
 // Lists of sources: a list of periods, one of weights and one of phases, and the tests that all lists pass before they are used.
 // Every function is proved. The public ones are inner steps of the crates above.
+#![tactic(auto)]
+
 ghost use Rattle.std.specs.Prelude.{◌≡◌};
 ghost use Rattle.sources.specs.Entry.{entries_of, entry_tests, length_tests, list_tests, source_lists_tests};
 ghost use Rattle.sources.specs.Lists.{OneLength};

@@ -19,7 +19,7 @@ const SOURCES: usize = 64;
 const CELLS: u64 = 65536;
 
 // The reply of reading a text.
-#[derive(Drop)]
+#[derive(Clone, Copy)]
 pub enum Answer {
     // The run.
     Read(Run),

@@ -1,6 +1,6 @@
 -- 002's first proposition over the integers, as it is worded there: the pair is a basis of the lattice, and its second half.
 -- Assumes nothing.
-use Prim.Native.Nat.{ℕ, ◌+◌, ◌*◌, ◌<◌, ◌∣◌}
+use Prim.Native.Nat.{ℕ, ◌+◌, ◌*◌, ◌∣◌}
 use mathlib.Core.Path.{◌≡◌, sym, ap, subst₂}
 use mathlib.Core.Logic.{◌↔◌}
 use native.Mathlib.Omega.{arith}

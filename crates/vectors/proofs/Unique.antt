@@ -7,7 +7,7 @@ use native.Mathlib.Omega.{arith}
 use lib.IntN.{pos}
 use Rattle.lattice.specs.Gcd.{IsGcd}
 use Rattle.lattice.proofs.Gcd.{gcd_unique}
-use Rattle.lattice.proofs.Pair.{Pair, SomePair, pair_iff, pair_gcd, reach, reached_cases}
+use Rattle.lattice.proofs.Pair.{SomePair, pair_iff, pair_gcd, reach, reached_cases}
 use Rattle.lattice.proofs.Unique as Lattice
 use borrow.Author.Tests.{leb-false, ltb-false}
 use Rattle.scope.proofs.Judged.{Passes, same_refusal}

@@ -1,5 +1,7 @@
 // The step vectors of Franke and Kleinjung's first proposition (document 002), and the single vector where there is no pair.
 // Every function is proved. `step_vectors` is the one public operation here, and it asks nothing of its caller.
+#![tactic(auto)]
+
 ghost use Rattle.std.specs.Prelude.{◌≡◌, ◌<◌, ◌^◌};
 ghost use Rattle.vectors.specs.Vectors.{vector};
 ghost use Rattle.vectors.specs.Promise.{VectorsPromise};
@@ -9,14 +11,14 @@ use scope::{Place, Reason, Verdict, judge_period, judge_window};
 use signed::size;
 
 // A vector of the lattice: so many ticks of offset, to the right or (below 0) to the left, and so many lines on.
-#[derive(Drop)]
+#[derive(Clone, Copy)]
 pub struct Vector {
     pub offset: i64,
     pub line: u64,
 }
 
 // The pair, or the single vector, of what passed the tests.
-#[derive(Drop)]
+#[derive(Clone, Copy)]
 pub enum Basis {
     // (α, β), which leads left, and (γ, δ), which leads right.
     Two(Vector, Vector),
@@ -25,7 +27,7 @@ pub enum Basis {
 }
 
 // The reply of the vectors call.
-#[derive(Drop)]
+#[derive(Clone, Copy)]
 pub enum Steps {
     // (α, β) and (γ, δ) of 002's first proposition.
     Pair(Vector, Vector),
@@ -36,7 +38,7 @@ pub enum Steps {
 }
 
 // Two successive vectors of the division sequence.
-#[derive(Drop)]
+#[derive(Clone, Copy)]
 pub struct Turn {
     pub before: Vector,
     pub last: Vector,

@@ -9,14 +9,14 @@ use search::{Found, Point};
 use vectors::{Basis, Vector};
 
 // A step of the walk: so many ticks of offset, so many cells on.
-#[derive(Drop)]
+#[derive(Clone, Copy)]
 pub struct Step {
     pub offset: i64,
     pub cells: u64,
 }
 
 // Where the walk stands: the first hit of a line.
-#[derive(Drop)]
+#[derive(Clone, Copy)]
 pub struct LineHit {
     pub offset: i64,
     pub cell: RunCell,
@@ -25,7 +25,7 @@ pub struct LineHit {
 // What the walk goes by: the steps (α, β) and (γ, δ), the two as one, and from where and up to where each stays among the
 // first hits of lines. These lie in a window that begins at A = -I/2 and is as wide as the run's, or as the period where that
 // is less.
-#[derive(Drop)]
+#[derive(Clone, Copy)]
 pub struct Walk {
     pub left: Step,
     pub right: Step,

@@ -1,5 +1,7 @@
 // A line of a text: a word and numbers, single spaces before them and a newline behind; read, and written.
 // Every function is proved. No function here is a public operation: each is an inner step of the crates above.
+#![tactic(auto)]
+
 ghost use Rattle.std.specs.Prelude.{◌+◌, ◌≤◌, length};
 ghost use Rattle.rooms.specs.Inner.{Written};
 ghost use Rattle.words.specs.Line.{line};
@@ -9,7 +11,7 @@ use decimal::Number;
 use scope::Reason;
 
 // What a step of reading answers.
-#[derive(Drop)]
+#[derive(Clone, Copy)]
 pub enum Found {
     // What it looks for stands there, and ends here.
     Next(usize),
