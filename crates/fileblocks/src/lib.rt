@@ -1,5 +1,7 @@
 // One block of a saved map, a file block: 512 bytes, its number before its contents and its check behind; written, and judged.
 // Every function is proved. No function here is a public operation: each is an inner step of the crates above.
+#![tactic(auto)]
+
 ghost use Rattle.std.specs.Prelude.{◌≡◌, ◌+◌, ◌*◌, ◌≤◌, ◌<◌, length, drop};
 ghost use Rattle.rooms.specs.Lists.{zeros};
 ghost use Rattle.scope.specs.Refusal.{complaint};

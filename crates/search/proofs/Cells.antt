@@ -18,7 +18,7 @@ use Rattle.scope.proofs.Hits as scope
 use Rattle.scope.proofs.Hits.{origin, hit_on, miss_on}
 use Rattle.vectors.specs.declared.Turn.{Turn}
 use Rattle.vectors.specs.Inner.{first_two, Successive}
-use Rattle.vectors.proofs.Found.{first_two, start_left}
+use Rattle.vectors.proofs.Found.{first_two_lem, start_left}
 use Rattle.vectors.proofs.Sequence.{size_of}
 use Rattle.search.specs.declared.Point.{Point}
 use Rattle.search.specs.declared.Found.TheVariants.{Nothing}
@@ -179,7 +179,7 @@ abbrev begin : Run → Source → Turn
 begin run source = first_two source.period (run.interval % source.period)
 
 pub begin_divides : (run : Run) {source : Source} → ValidSource source → Successive source.period (run.interval % source.period) (begin run source).before (begin run source).last
-begin_divides run s = first_two (mod-lt run.interval s.ticks)
+begin_divides run s = first_two_lem (mod-lt run.interval s.ticks)
 
 pub begin_seeking : {run : Run} {source : Source} {at : Point} → ValidRun run → ValidSource source → at.distance < source.period → Seeking (begin run source).before (begin run source).last at run.window run.last
 begin_seeking {run} {source} v s low = record {

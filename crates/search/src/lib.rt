@@ -1,5 +1,7 @@
 // Where a source comes into the window: its distance on a line, and the first hit from a line or a cell on.
 // No function here loops over lines or hits: a point is carried down the division sequence of 002, O(log p) rounds.
+#![tactic(auto)]
+
 ghost use Rattle.std.specs.Prelude.{◌≡◌, ℕ, ◌+◌, ◌-◌, ◌*◌, ◌%◌, ◌≤◌, ◌<◌};
 ghost use Rattle.lattice.proofs.Multiples.{Above};
 ghost use Rattle.scope.specs.Run.{ValidRun, ValidSource, cells_of};

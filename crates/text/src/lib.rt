@@ -1,5 +1,7 @@
 // The text that the list program reads: a run and its sources, or the refusal.
 // Every function is proved. `read_text` is the one public operation here, and it asks nothing of its caller.
+#![tactic(auto)]
+
 ghost use Rattle.std.specs.Prelude.{◌≡◌, ltb, length};
 ghost use Rattle.scope.specs.Refusal.{◌when◌, complaint};
 ghost use Rattle.scope.specs.declared.Reason.TheVariants.{TooMany};
