@@ -1,5 +1,7 @@
 // The walk of a source over a run: from the first hit of a line to the first hit of the next line that has one.
 // What it goes by is worked out once; a step is then at most two comparisons, and two sums.
+#![tactic(auto)]
+
 ghost use Rattle.std.specs.Prelude.{◌≡◌, ◌+◌, ◌*◌, ◌/◌, ◌≤◌, ◌<◌, ◌^◌, min, pos, ◌+ℤ◌, ◌-ℤ◌};
 ghost use Rattle.scope.specs.Run.{ValidRun, ValidSource, cells_of};
 ghost use Rattle.walk.specs.Inner.{Short, Joinable, GoesBy, Begun, Begins, Leads, Movable, Moved, Walking, Walks};

@@ -1,5 +1,4 @@
 -- `walk::walk_by` meets its contract: the differences are small. Assumes nothing.
-use borrow.Author.Rules.{rules}
 use native.Mathlib.Omega.{arith}
 use native.Mathlib.Nat.{mul-le-mul}
 use Prim.Native.Nat.{ℕ, ◌*◌, ◌/◌, ◌^◌, ◌≤◌}
@@ -13,8 +12,8 @@ use Rattle.signed.proofs.Parts.{parts, sum, apart, neg_up, neg_dn}
 use Rattle.vectors.specs.declared.Vector.{Vector}
 use Rattle.walk.specs.Inner.{Short}
 use Rattle.walk.proofs.Walks.{near, near_fits}
-use Rattle.walk.proofs.walk_by.Statement.{statement}
-use Rattle.walk.proofs.walk_by.Tie as tie
+use Rattle.walk.proofs.walk_by.Goals as goal
+use Rattle.walk.proofs.walk_by.Goals.{After-offset_at, After-offset_at-2}
 
 -- an edge of the window less a vector's offset
 record Held (edge : ℤ) (v : Vector) : Type 0 where
@@ -44,11 +43,11 @@ held {edge} {v} {window} d h l is =
     }
 
 -- the window's left edge and its right edge
-low_held : (c : tie.After-offset-at) → Held c.offset_at.result c.before.before.before.before.args.left
-low_held c = held 0 c.before.before.before.before.requires.0 (omega arith) c.offset_at.ensures
+low_held : (c : After-offset_at) → Held c.offset_at.result c.args.left
+low_held c = held 0 c.requires.0 (omega arith) c.offset_at.ensures
 
-high_held : (c : tie.After-offset-at2) → Held c.offset-at2.result c.before.before.before.before.before.before.before.args.right
-high_held c = let s = c.before.before.before.before.before.before.before in held s.args.width s.requires.1 s.requires.2 c.offset-at2.ensures
+high_held : (c : After-offset_at-2) → Held c.offset_at-2.result c.args.right
+high_held c = held c.args.width c.requires.1 c.requires.2 c.offset_at-2.ensures
 
 -- a step has as many cells as its lines, or a window more
 cells_few : {v : Vector} {window cells : ℕ} → Short v window → pos cells ≡ pos (v.line * window) +ℤ v.offset → cells ≤ 2 ^ 44
@@ -57,69 +56,40 @@ cells_few {v} {window} h e =
     let o = (offset_near h).1 in
     omega (arith, parts, sum (pos (v.line * window)) v.offset)
 
-step-of-requires : tie.Need-step-of-requires
-step-of-requires c κs = search rules
-
-step-of-requires-2 : tie.Need-step-of-requires-2
-step-of-requires-2 c κs = search rules
-
-and-requires : tie.Need-and-requires
-and-requires c κs =
-    let s = c.before.before in
-    let left = c.before.step_of_lem.ensures in
-    let right = c.step-of2.ensures in
-    let l = offset_near s.requires.0 in
-    let r = offset_near s.requires.1 in
+pub and-requires : goal.and-requires
+and-requires c =
+    let left = c.step_of-to_left.ensures in
+    let right = c.step_of-to_right.ensures in
+    let l = offset_near c.requires.0 in
+    let r = offset_near c.requires.1 in
     record {
       one_low = rw left.0 l.0;
       one_high = rw left.0 l.1;
       other_low = rw right.0 r.0;
       other_high = rw right.0 r.1;
-      one_cells = cells_few s.requires.0 left.1;
-      other_cells = cells_few s.requires.1 right.1;
+      one_cells = cells_few c.requires.0 left.1;
+      other_cells = cells_few c.requires.1 right.1;
     }
 
-offset-at-requires : tie.Need-offset-at-requires
-offset-at-requires c κs = search rules
+pub overflow_sub-result : goal.overflow_sub-result
+overflow_sub-result c = let h = low_held (goal.at.overflow_sub-result c).After-offset_at in simp (to_z-of_z h.edge_fits, to_z-of_z h.offset_fits) h.fits
 
-sub-t9 : tie.Need-overflow-sub-t9
-sub-t9 c = let h = low_held c.before.before in simp (to_z-of_z h.edge_fits, to_z-of_z h.offset_fits) h.fits
+pub overflow_sub-result-2 : goal.overflow_sub-result-2
+overflow_sub-result-2 c = let h = high_held (goal.at.overflow_sub-result-2 c).After-offset_at-2 in simp (to_z-of_z h.edge_fits, to_z-of_z h.offset_fits) h.fits
 
-offset-at-requires-2 : tie.Need-offset-at-requires-2
-offset-at-requires-2 c κs = search rules
-
-sub-t12 : tie.Need-overflow-sub-t12
-sub-t12 c = let h = high_held c.before.before in simp (to_z-of_z h.edge_fits, to_z-of_z h.offset_fits) h.fits
-
-returns : tie.Need-returns
+pub returns : goal.returns
 returns c =
-    let right = c.before.before in
-    let left = right.before.before.before in
-    let one = left.before.before.before.step_of_lem.ensures in
-    let other = left.before.before.step-of2.ensures in
-    let s = left.before.before.before.before in
-    let l = low_held left in
-    let r = high_held right in
+    let one = c.step_of-to_left.ensures in
+    let other = c.step_of-to_right.ensures in
+    let l = low_held (goal.at.returns c).After-offset_at in
+    let r = high_held (goal.at.returns c).After-offset_at-2 in
     record {
       left_offset = one.0;
       left_cells = one.1;
       right_offset = other.0;
       right_cells = other.1;
-      both_offset = left.before.and.ensures.0 ∙ ap₂ ◌+ℤ◌ one.0 other.0;
-      both_cells = left.before.and.ensures.1;
-      low = simp (to_z-of_z l.edge_fits, to_z-of_z l.offset_fits, to_z-of_z l.fits) (ap (λ z. z -ℤ s.args.left.offset) left.offset_at.ensures);
-      high = simp (to_z-of_z r.edge_fits, to_z-of_z r.offset_fits, to_z-of_z r.fits) (ap (λ z. z -ℤ s.args.right.offset) right.offset-at2.ensures);
+      both_offset = c.and.ensures.0 ∙ ap₂ ◌+ℤ◌ one.0 other.0;
+      both_cells = c.and.ensures.1;
+      low = simp (to_z-of_z l.edge_fits, to_z-of_z l.offset_fits, to_z-of_z l.fits) (ap (λ z. z -ℤ c.args.left.offset) c.offset_at.ensures);
+      high = simp (to_z-of_z r.edge_fits, to_z-of_z r.offset_fits, to_z-of_z r.fits) (ap (λ z. z -ℤ c.args.right.offset) c.offset_at-2.ensures);
     }
-
-pub walk_by_spec : {M : Type 1} → statement M
-walk_by_spec =
-    tie.close
-    (tie.spec
-    step-of-requires
-    step-of-requires-2
-    and-requires
-    offset-at-requires
-    sub-t9
-    offset-at-requires-2
-    sub-t12
-    returns)

@@ -11,8 +11,7 @@ use mir.Facts.{to_z-of_z, to_z_pos, Fits-nat_abs}
 use Rattle.signed.proofs.Parts.{parts, sum, apart, neg_up, neg_dn, abs_parts}
 use Rattle.vectors.specs.declared.Vector.{Vector}
 use Rattle.walk.specs.Inner.{Short}
-use Rattle.walk.proofs.step_of.Statement.{statement}
-use Rattle.walk.proofs.step_of.Tie as tie
+use Rattle.walk.proofs.step_of.Goals as goal
 
 record Held (v : Vector) (window : ℕ) : Type 0 where
   few : v.line * window ≤ 8796093018112
@@ -41,28 +40,23 @@ held {v} {window} h =
       whole = omega (arith, parts, abs_parts (pos (v.line * window) +ℤ v.offset));
     }
 
-mul-t4 : tie.Need-overflow-mul-t4
-mul-t4 c = let h = (held c.before.requires).few in record { fits = omega arith }
+pub overflow_mul-result : goal.overflow_mul-result
+overflow_mul-result c = let h = (held c.requires).few in record { fits = omega arith }
 
-cast-t5 : tie.Need-overflow-cast-t5
-cast-t5 c = let h = (held c.before.requires).few in omega (arith, parts)
+pub overflow_cast-result-2 : goal.overflow_cast-result-2
+overflow_cast-result-2 c = let h = (held c.requires).few in omega (arith, parts)
 
-add-t6 : tie.Need-overflow-add-t6
-add-t6 c = let h = held c.before.before.before.requires in let few = h.few in simp (to_z_pos w64 {n = c.before.before.before.args.v.line * c.before.before.before.args.window} (omega arith), to_z-of_z h.offset) h.cells
+pub overflow_add-result : goal.overflow_add-result
+overflow_add-result c = let h = held c.requires in let few = h.few in simp (to_z_pos w64 {n = c.args.v.line * c.args.window} (omega arith), to_z-of_z h.offset) h.cells
 
-cast-t7 : tie.Need-overflow-cast-t7
-cast-t7 c =
-    let s = c.before.before.before in
-    let h = held s.requires in
+pub overflow_cast-result-3 : goal.overflow_cast-result-3
+overflow_cast-result-3 c =
+    let h = held c.requires in
     let few = h.few in
-    simp (to_z_pos w64 {n = s.args.v.line * s.args.window} (omega arith), to_z-of_z h.offset, to_z-of_z h.cells) (yes_non_neg h.ahead, Fits-nat_abs tt h.cells)
+    simp (to_z_pos w64 {n = c.args.v.line * c.args.window} (omega arith), to_z-of_z h.offset, to_z-of_z h.cells) (yes_non_neg h.ahead, Fits-nat_abs tt h.cells)
 
-returns : tie.Need-returns
+pub returns : goal.returns
 returns c =
-    let s = c.before.before.before.before in
-    let h = held s.requires in
+    let h = held c.requires in
     let few = h.few in
-    (to_z-of_z h.offset, simp (to_z_pos w64 {n = s.args.v.line * s.args.window} (omega arith), to_z-of_z h.offset, to_z-of_z h.cells) (sym h.whole))
-
-pub step_of_spec : {M : Type 1} → statement M
-step_of_spec = tie.close (tie.spec mul-t4 cast-t5 add-t6 cast-t7 returns)
+    (to_z-of_z h.offset, simp (to_z_pos w64 {n = c.args.v.line * c.args.window} (omega arith), to_z-of_z h.offset, to_z-of_z h.cells) (sym h.whole))
