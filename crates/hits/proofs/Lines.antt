@@ -1,6 +1,6 @@
 -- The two loops of the listing. At the head of a line the next hit is known with its offset, and the line's first hit with
 -- it; within the line the hits are a period apart, up to the line's end; from there the walk leads to the next line.
--- A signed number in a loop stands as its bits, z, and is `to_z w64 z`. Assumes nothing.
+-- What is stored in a signed local is read back as `to_z w64 (of_z w64 z)`, which is z where z fits. Assumes nothing.
 use Prim.Native.Nat.{ℕ, ◌+◌, ◌-◌, ◌*◌, ◌/◌, ◌%◌, ◌≤◌, ◌<◌, min}
 use native.Mathlib.Nat.{mod-lt, div-add-mod', mul-le-mul_right}
 use native.Mathlib.Omega.{arith}
@@ -8,7 +8,7 @@ use mathlib.Core.Path.{◌≡◌, refl, ap, ◌∙◌, subst}
 use mathlib.Core.Bool.{true, false}
 use mathlib.Core.List.{List}
 use lib.ListN.{length, set}
-use lib.IntN.{pos, neg_ℤ, ◌+ℤ◌, ◌-ℤ◌}
+use lib.IntN.{ℤ, pos, neg_ℤ, ◌+ℤ◌, ◌-ℤ◌}
 use lib.Signed.{lt_z}
 use mir.Syntax.{w64}
 use mir.Val.{SFits, to_z, of_z}
@@ -29,40 +29,40 @@ use Rattle.walk.proofs.Walks.{apart_by, fits_at}
 use Rattle.hits.proofs.Kept.{Kept, kept_over, kept_end, kept_write, kept_more, kept_done}
 
 -- what stays
-pub record Fixed (run : Run) (source : Source) (all period end : ℕ) (walk : Walk) : Type 0 where
+pub record Fixed (run : Run) (source : Source) (all period : ℕ) (end : ℤ) (walk : Walk) : Type 0 where
   pub valid : ValidRun run
   pub source_valid : ValidSource source
   pub all_is : all ≡ cells_of run
   pub period_is : period ≡ source.period
-  pub end_is : to_z w64 end ≡ pos run.window -ℤ pos (run.window / 2)
+  pub end_is : end ≡ pos run.window -ℤ pos (run.window / 2)
   pub leads : Leads run source walk
 
 -- a hit cell, its offset, and the first hit of its line
-pub record Running (run : Run) (source : Source) (at : LineHit) (cell offset : ℕ) : Type 0 where
+pub record Running (run : Run) (source : Source) (at : LineHit) (cell : ℕ) (offset : ℤ) : Type 0 where
   pub stands : Stands run source at
   pub line : at.cell.0 / run.window ≡ cell / run.window
   pub hit : is_hit run source cell ≡ true
-  pub offset_is : to_z w64 offset ≡ offset_of run cell
+  pub offset_is : offset ≡ offset_of run cell
 
 -- at the head of a line: the next hit, or none
-pub record Head (run : Run) (source : Source) (start : ℕ) (before room : List ℕ) (n cell offset : ℕ) (at : LineHit) : Type 0 where
+pub record Head (run : Run) (source : Source) (start : ℕ) (before room : List ℕ) (n cell : ℕ) (offset : ℤ) (at : LineHit) : Type 0 where
   pub kept : Kept run source start before room n cell
   pub running : cell < cells_of run → Running run source at cell offset
 
 -- within the line of `at`, at distance e from the left edge, which may be past the line's end: as far past the right edge
-pub record Inside (run : Run) (source : Source) (start : ℕ) (before room : List ℕ) (n cell past : ℕ) (at : LineHit) : Type 0 where
+pub record Inside (run : Run) (source : Source) (start : ℕ) (before room : List ℕ) (n cell : ℕ) (past : ℤ) (at : LineHit) : Type 0 where
   pub stands : Stands run source at
   pub below : at.cell.0 < cells_of run
   pub e : ℕ
   pub cell_is : cell ≡ at.cell.0 / run.window * run.window + e
-  pub past_is : to_z w64 past ≡ pos e -ℤ pos run.window
+  pub past_is : past ≡ pos e -ℤ pos run.window
   pub on : Points run source e (run.first + at.cell.0 / run.window)
   pub near : e < run.window + source.period
   pub kept : Kept run source start before room n (at.cell.0 / run.window * run.window + min e run.window)
 
-module _ {run : Run} {source : Source} {start all period end : ℕ} {walk : Walk} (fixed : Fixed run source all period end walk) {before : List ℕ} where
+module _ {run : Run} {source : Source} {start all period : ℕ} {end : ℤ} {walk : Walk} (fixed : Fixed run source all period end walk) {before : List ℕ} where
   -- at the head of a line
-  module _ {room : List ℕ} {n cell offset : ℕ} {at : LineHit} (in' : cell < all) (h : Head run source start before room n cell offset at) where
+  module _ {room : List ℕ} {n cell : ℕ} {offset : ℤ} {at : LineHit} (in' : cell < all) (h : Head run source start before room n cell offset at) where
     here : Running run source at cell offset
     here = h.running (omega (arith, fixed.all_is))
 
@@ -85,7 +85,7 @@ module _ {run : Run} {source : Source} {start all period end : ℕ} {walk : Walk
     }
 
     -- the offset, counted from the right edge
-    from_edge : (to_z w64 offset -ℤ to_z w64 end) ≡ pos (cell % run.window) -ℤ pos run.window
+    from_edge : (offset -ℤ end) ≡ pos (cell % run.window) -ℤ pos run.window
     unfolding offset_of
     from_edge =
         let o = here.offset_is in
@@ -93,16 +93,16 @@ module _ {run : Run} {source : Source} {start all period end : ℕ} {walk : Walk
         let h = pos (run.window / 2) in
         let w = pos run.window in
         let d = pos (cell % run.window) in
-        omega (arith, parts, sum (to_z w64 offset) (neg_ℤ (to_z w64 end)), neg_up (to_z w64 end), neg_dn (to_z w64 end), sum w (neg_ℤ h), sum d (neg_ℤ h), sum d (neg_ℤ w), neg_up h, neg_dn h, neg_up w, neg_dn w)
+        omega (arith, parts, sum offset (neg_ℤ end), neg_up end, neg_dn end, sum w (neg_ℤ h), sum d (neg_ℤ h), sum d (neg_ℤ w), neg_up h, neg_dn h, neg_up w, neg_dn w)
 
-    pub edge_fits : SFits w64 (to_z w64 offset -ℤ to_z w64 end)
+    pub edge_fits : SFits w64 (offset -ℤ end)
     edge_fits =
         let w = fixed.valid.wide in
         let some = fixed.valid.narrow in
         fits_at (cell % run.window) run.window from_edge (omega (arith, mod-lt cell {m = run.window} (omega arith))) w
 
     -- into the line
-    pub enter : Inside run source start before room n cell (of_z w64 (to_z w64 offset -ℤ to_z w64 end)) at
+    pub enter : Inside run source start before room n cell (to_z w64 (of_z w64 (offset -ℤ end))) at
     enter =
         let some = fixed.valid.narrow in
         let line = here.line in
@@ -122,16 +122,16 @@ module _ {run : Run} {source : Source} {start all period end : ℕ} {walk : Walk
 
   -- ---- within the line
 
-  module _ {room : List ℕ} {n cell past : ℕ} {at : LineHit} (i : Inside run source start before room n cell past at) where
-    by_distance : to_z w64 past +ℤ pos run.window ≡ pos i.e
+  module _ {room : List ℕ} {n cell : ℕ} {past : ℤ} {at : LineHit} (i : Inside run source start before room n cell past at) where
+    by_distance : past +ℤ pos run.window ≡ pos i.e
     by_distance = rw i.past_is (apart_by i.e run.window)
 
     -- the test of the inner loop
-    pub within : lt_z (to_z w64 past) (pos 0) ≡ true → i.e < run.window
-    within t = let l = lt_z_true (to_z w64 past) (pos 0) t in let d = by_distance in omega (arith, parts, sum (to_z w64 past) (pos run.window))
+    pub within : lt_z past (pos 0) ≡ true → i.e < run.window
+    within t = let l = lt_z_true past (pos 0) t in let d = by_distance in omega (arith, parts, sum past (pos run.window))
 
-    pub beyond : lt_z (to_z w64 past) (pos 0) ≡ false → run.window ≤ i.e
-    beyond t = let l = lt_z_false (to_z w64 past) (pos 0) t in let d = by_distance in omega (arith, parts, sum (to_z w64 past) (pos run.window))
+    pub beyond : lt_z past (pos 0) ≡ false → run.window ≤ i.e
+    beyond t = let l = lt_z_false past (pos 0) t in let d = by_distance in omega (arith, parts, sum past (pos run.window))
 
     module _ (in' : i.e < run.window) where
       pub cell_in : cell < cells_of run
@@ -147,18 +147,18 @@ module _ {run : Run} {source : Source} {start all period end : ℕ} {walk : Walk
       period_held : to_z w64 period ≡ pos source.period
       period_held = rw fixed.period_is (to_z_pos w64 (omega (arith, fixed.source_valid.fits)))
 
-      pub past_fits : SFits w64 (to_z w64 past +ℤ to_z w64 period)
+      pub past_fits : SFits w64 (past +ℤ to_z w64 period)
       past_fits =
           let b = by_distance in
           let w = fixed.valid.wide in
           let f = fixed.source_valid.fits in
-          rw period_held (omega (arith, parts, sum (to_z w64 past) (pos run.window), sum (to_z w64 past) (pos source.period), apart (to_z w64 past), apart (to_z w64 past +ℤ pos source.period)))
+          rw period_held (omega (arith, parts, sum past (pos run.window), sum past (pos source.period), apart past, apart (past +ℤ pos source.period)))
 
-      past_next : to_z w64 (of_z w64 (to_z w64 past +ℤ to_z w64 period)) ≡ pos (i.e + source.period) -ℤ pos run.window
+      past_next : to_z w64 (of_z w64 (past +ℤ to_z w64 period)) ≡ pos (i.e + source.period) -ℤ pos run.window
       past_next =
           let b = by_distance in
           let w = pos run.window in
-          let e : to_z w64 past +ℤ pos source.period ≡ pos (i.e + source.period) -ℤ w = omega (arith, parts, sum (to_z w64 past) w, sum (to_z w64 past) (pos source.period), sum (pos (i.e + source.period)) (neg_ℤ w), neg_up w, neg_dn w) in
+          let e : past +ℤ pos source.period ≡ pos (i.e + source.period) -ℤ w = omega (arith, parts, sum past w, sum past (pos source.period), sum (pos (i.e + source.period)) (neg_ℤ w), neg_up w, neg_dn w) in
           to_z-of_z past_fits ∙ rw period_held e
 
       -- no hit between this one and the next, or the line's end
@@ -171,7 +171,7 @@ module _ {run : Run} {source : Source} {start all period end : ℕ} {walk : Walk
           let far = (leftmost_next fixed.source_valid.ticks i.on).least d (omega (arith, i.cell_is, ap (λ x. x * run.window) same)) (subst (λ x. Points run source d (run.first + x)) same o) in
           omega (arith, ap (λ x. x * run.window) same))
 
-      pub write : n < length room → Inside run source start before (set room n cell) (n + 1) (cell + period) (of_z w64 (to_z w64 past +ℤ to_z w64 period)) at
+      pub write : n < length room → Inside run source start before (set room n cell) (n + 1) (cell + period) (to_z w64 (of_z w64 (past +ℤ to_z w64 period))) at
       write l =
           let k = kept_write l cell_in cell_hit kept_here in
           record {
@@ -186,7 +186,7 @@ module _ {run : Run} {source : Source} {start all period end : ℕ} {walk : Walk
           }
 
     -- from the line's end to the next line
-    pub leave : {to : LineHit} → run.window ≤ i.e → NextLine run source at to → Head run source start before room n to.cell.0 (of_z w64 to.offset) to
+    pub leave : {to : LineHit} → run.window ≤ i.e → NextLine run source at to → Head run source start before room n to.cell.0 (to_z w64 (of_z w64 to.offset)) to
     unfolding offset_of line_of
     leave {to} out nl =
         let v = fixed.valid in
@@ -216,15 +216,15 @@ pub record Ended (run : Run) (source : Source) (start : ℕ) (before room : List
   pub full : next < cells_of run → n ≡ length room
   pub hit : next < cells_of run → is_hit run source next ≡ true
 
-module _ {run : Run} {source : Source} {start all period end : ℕ} {walk : Walk} (fixed : Fixed run source all period end walk) {before room : List ℕ} {n cell : ℕ} {at : LineHit} where
+module _ {run : Run} {source : Source} {start all period : ℕ} {end : ℤ} {walk : Walk} (fixed : Fixed run source all period end walk) {before room : List ℕ} {n cell : ℕ} {at : LineHit} where
   -- the walk went past the last cell
-  pub ran_out : {offset : ℕ} → Head run source start before room n cell offset at → all ≤ cell → Ended run source start before room n all
+  pub ran_out : {offset : ℤ} → Head run source start before room n cell offset at → all ≤ cell → Ended run source start before room n all
   ran_out h out =
       let is = fixed.all_is in
       record { kept = kept_end all (omega arith) (omega arith) h.kept; full = λ l. absurd (omega arith); hit = λ l. absurd (omega arith) }
 
   -- the room was full within a line
-  pub filled : {past : ℕ} (i : Inside run source start before room n cell past at) → i.e < run.window → n ≡ length room → Ended run source start before room n cell
+  pub filled : {past : ℤ} (i : Inside run source start before room n cell past at) → i.e < run.window → n ≡ length room → Ended run source start before room n cell
   filled i in' e = record { kept = kept_here fixed i in'; full = λ l. e; hit = λ l. cell_hit fixed i in' }
 
 module _ {run : Run} {source : Source} {start : ℕ} {before room : List ℕ} {n next : ℕ} (ended : Ended run source start before room n next) where
@@ -235,7 +235,7 @@ module _ {run : Run} {source : Source} {start : ℕ} {before room : List ℕ} {n
   says_done h = kept_done h ended.kept
 
 -- the walk gets on: from a hit of a line to one of a later line
-pub gets_on : {run : Run} {source : Source} {at to : LineHit} {cell offset : ℕ} → ValidRun run → Running run source at cell offset → NextLine run source at to → cell < to.cell.0
+pub gets_on : {run : Run} {source : Source} {at to : LineHit} {cell : ℕ} {offset : ℤ} → ValidRun run → Running run source at cell offset → NextLine run source at to → cell < to.cell.0
 unfolding line_of
 gets_on {run} {source} {at} {to} {cell} v r nl =
     let some = v.narrow in

@@ -1,5 +1,7 @@
 // The hits of a source in a run: the first from a cell on, and their listing in a lent room.
 // Every function is proved. `first_hit` and `list_hits` are the public operations, and they ask nothing of their caller.
+#![tactic(auto)]
+
 ghost use Rattle.std.specs.Prelude.{◌≡◌, ◌<◌};
 ghost use Rattle.scope.specs.Run.{ValidRun, ValidSource, cells_of};
 ghost use Rattle.scope.specs.Refusal.{complaint};

@@ -1,5 +1,7 @@
 // The map: every cell's sum of the weights of the sources that hit it, up to the ceiling.
 // Every function is proved. `make_map` and `add_to_map` are the public operations here, and they ask nothing of their caller.
+#![tactic(auto)]
+
 ghost use Rattle.std.specs.Prelude.{◌≡◌, [], ◌∷◌, min, ◌+◌, ◌-◌, ◌≤◌, ◌<◌, ◌^◌, length};
 ghost use Rattle.scope.specs.Run.{ValidRun, ValidSource, ceiling, cells_of};
 ghost use Rattle.scope.specs.Refusal.{complaint};

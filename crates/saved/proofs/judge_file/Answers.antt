@@ -50,7 +50,7 @@ limited : (c : In_default-judge_run) → Passes (to_run c.args.file.now)
 limited c = both (headed (goal.at.In_default-judge_run c).In_default) (fine (run-judged (goal.at.In_default-judge_run c).After-judge_run) c.in_default-judge_run.is)
 
 valid : (c : In_default-judge_run) → ValidRun c.run_of-run.result
-valid c = valid_run (fine c.judge_run.ensures c.in_default-judge_run.is) (omega (arith, c.run_of-run.type-inv))
+valid c = valid_run (fine c.judge_run.ensures c.in_default-judge_run.is) (omega (arith, c.run_of-run.type_inv))
 
 -- how long the file is to be, and how many bytes of cells it is to hold
 size-told : (c : After-bytes_for-size) → c.bytes_for-size.result ≡ bytes_for (run_of c.args.file.now)

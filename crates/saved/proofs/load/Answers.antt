@@ -49,6 +49,12 @@ slice_bounds-copy-end c = let r = read_room c.loop-k.invariant c.loop-k-test.tru
 pub slice_bounds-copy-count-in-loop-k : goal.slice_bounds-copy-count-in-loop-k
 slice_bounds-copy-count-in-loop-k c = omega arith
 
+pub slice_bounds-copy-start-in-loop-k : goal.slice_bounds-copy-start-in-loop-k
+slice_bounds-copy-start-in-loop-k c = omega arith
+
+pub slice_bounds-copy-end-in-loop-k : goal.slice_bounds-copy-end-in-loop-k
+slice_bounds-copy-end-in-loop-k c = omega arith
+
 pub copy-requires : goal.copy-requires
 copy-requires c = read_part c.loop-k.invariant c.loop-k-test.true c.smaller-end.ensures
 

@@ -18,7 +18,7 @@ told : (c : In-Of) → Passes (file_tests c.args.file.now) × (c.in-Of.run' ≡ 
 told c = said_answered _ (ap says_reading (sym c.in-Of.is) ∙ c.judge_file.ensures)
 
 valid : (c : In-Of) → ValidRun c.in-Of.run'
-valid c = valid_run (rw (← (told c).1) at (accepted (told c).0).limited) (omega (arith, c.known_told-in-Of-1.given))
+valid c = valid_run (rw (← (told c).1) at (accepted (told c).0).limited) (omega (arith, rw c.in-Of.is at c.judge_file.type_inv))
 
 -- the room is that of the run
 cells_told : (c : After-cells) → c.cells.result ≡ cells_of (run_of c.args.file.now)

@@ -29,7 +29,7 @@ passes : (c : In_default) → Passes (run_tests c.args.run)
 passes c = fine c.judge_run.ensures c.in_default.is
 
 valid : (c : In_default) → ValidRun c.args.run
-valid c = valid_run (passes c) (omega (arith, c.well-formed.0))
+valid c = valid_run (passes c) (omega (arith, c.well_formed.0))
 
 -- every test is passed
 record Admitted (run : Run) (map file : List ℕ) : Type 0 where

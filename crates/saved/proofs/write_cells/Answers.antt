@@ -47,6 +47,12 @@ slice_bounds-write_file_block-end c = omega arith
 pub slice_bounds-write_file_block-count-in-loop-k : goal.slice_bounds-write_file_block-count-in-loop-k
 slice_bounds-write_file_block-count-in-loop-k c = omega arith
 
+pub slice_bounds-write_file_block-start-in-loop-k : goal.slice_bounds-write_file_block-start-in-loop-k
+slice_bounds-write_file_block-start-in-loop-k c = omega arith
+
+pub slice_bounds-write_file_block-end-in-loop-k : goal.slice_bounds-write_file_block-end-in-loop-k
+slice_bounds-write_file_block-end-in-loop-k c = cells_room c.loop-k.invariant c.loop-k-test.true
+
 pub write_file_block-requires : goal.write_file_block-requires
 write_file_block-requires c =
     let r = cells_room c.loop-k.invariant c.loop-k-test.true in

@@ -1,0 +1,19 @@
+-- `map::add_hits` meets its contract. The loop's invariant: the hits before `at` are added, and `at` is the next one if it
+-- lies in the run. The measure is what is left of the map. Assumes nothing.
+use mathlib.Core.Path.{◌≡◌}
+use Prim.Native.Nat.{◌-◌}
+use lib.ListN.{length}
+use Rattle.scope.specs.declared.Run.{Run}
+use Rattle.scope.specs.declared.Source.{Source}
+use Rattle.map.specs.Inner.{Crosses}
+use Rattle.map.proofs.Walked.{Walked}
+use Rattle.map.proofs.add_hits.Given as goal
+
+abbrev pub invariant-loop-cell : goal.invariant-loop-cell
+invariant-loop-cell l =
+    (l.cell ≡ l.at.cell.0) ×
+    (length l.map ≡ length l.initial.map) ×
+    ((run : Run) (source : Source) → Crosses run source l.walk l.initial.at l.initial.map → Walked run source l.weight l.initial.map l.initial.map l.initial.at → Walked run source l.weight l.initial.map l.map l.at)
+
+abbrev pub decreases-loop-cell : goal.decreases-loop-cell
+decreases-loop-cell l = length l.initial.map - l.cell
