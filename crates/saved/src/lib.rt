@@ -1,5 +1,7 @@
 // The saved map of document 01: a file of blocks of 512 bytes, each with its number before its contents and its check behind.
 // Every function is proved. `save` and `read` are the public operations; the others are inner steps of these.
+#![tactic(auto)]
+
 ghost use Rattle.std.specs.Prelude.{◌≡◌, ◌+◌, ◌*◌, ◌≤◌, ◌<◌, length, take};
 ghost use Rattle.scope.specs.Run.{ValidRun};
 ghost use Rattle.scope.specs.Refusal.{complaint};

@@ -1,5 +1,4 @@
 -- `saved::bytes_for` meets its contract: a cell is one byte. Assumes nothing.
-use borrow.Author.Rules.{rules}
 use Rattle.saved.specs.File.{bytes_for}
 use Rattle.saved.proofs.bytes_for.Goals as goal
 

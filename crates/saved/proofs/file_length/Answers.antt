@@ -1,5 +1,4 @@
 -- `saved::file_length` meets its contract: it is the definition, and far below 2^64. Assumes nothing.
-use borrow.Author.Rules.{rules}
 use mathlib.Core.Path.{refl}
 use Rattle.saved.specs.File.{file_length, file_blocks_for}
 use Rattle.saved.proofs.file_length.Goals as goal

@@ -1,5 +1,4 @@
 -- `saved::judge_file` meets its contract: each refusal is the first test that fails; with none, the run is the one that block 0 tells. Assumes nothing.
-use borrow.Author.Rules.{rules}
 use borrow.Author.Tests.{eq-eqb, ne_eqb}
 use native.Mathlib.Omega.{arith}
 use Prim.Native.Nat.{ℕ, ◌%◌}

@@ -1,5 +1,4 @@
 -- `saved::judge_heading` meets its contract: each return is the first test that fails, or none. Assumes nothing.
-use borrow.Author.Rules.{rules}
 use mathlib.Core.Path.{refl, sym, ap, ◌∙◌}
 use mathlib.Core.Bool.{not}
 use lib.Dec.{eqb}

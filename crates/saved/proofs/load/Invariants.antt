@@ -1,12 +1,9 @@
 -- `saved::load` meets its contract. The invariant of its loop: the map is filled with what the first k blocks of cells hold. The measure is how many cells are left.
 -- Assumes nothing.
 use Prim.Native.Nat.{◌*◌, ◌-◌}
-use native.Mathlib.Omega.{arith}
-use borrow.Author.Rules.{rules}
 use lib.ListN.{length}
 use Rattle.fileblocks.specs.FileBlock.{content_bytes}
-use Rattle.saved.specs.File.{file_blocks_for}
-use Rattle.saved.proofs.Cells.{CellsRead, read_none, read_room, read_part, read_more, read_all}
+use Rattle.saved.proofs.Cells.{CellsRead}
 use Rattle.saved.proofs.load.Given as goal
 
 abbrev pub invariant-loop-k : goal.invariant-loop-k

@@ -1,5 +1,4 @@
 -- `saved::read` meets its contract: the file's own refusal, or 9, with the map as it was; else the file's run, and the map filled. Assumes nothing.
-use borrow.Author.Rules.{rules}
 use native.Mathlib.Omega.{arith}
 use mathlib.Core.Path.{◌≡◌, refl, sym, ap, ◌∙◌}
 use lib.ListN.{take}

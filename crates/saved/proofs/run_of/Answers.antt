@@ -1,5 +1,4 @@
 -- `saved::run_of` meets its contract: each number of the run is read where it stands. Assumes nothing.
-use borrow.Author.Rules.{rules}
 use Rattle.saved.specs.File.{run_of}
 use Rattle.saved.proofs.run_of.Goals as goal
 
@@ -7,8 +6,8 @@ pub returns : goal.returns
 unfolding run_of
 returns c =
     λ i. record {
-  window = c.four_at.ensures i;
-  interval = c.four_at-2.ensures i;
-  first = c.four_at-3.ensures i;
-  last = c.four_at-4.ensures i;
-}
+      window = c.four_at.ensures i;
+      interval = c.four_at-2.ensures i;
+      first = c.four_at-3.ensures i;
+      last = c.four_at-4.ensures i;
+    }

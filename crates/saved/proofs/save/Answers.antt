@@ -1,5 +1,4 @@
 -- `saved::save` meets its contract: each refusal is the first test that fails; with none, the room is written whole, block 0 first. Assumes nothing.
-use borrow.Author.Rules.{rules}
 use Prim.Native.Nat.{ℕ, ◌-◌, ◌*◌, ◌<◌}
 use native.Mathlib.Nat.{le_refl}
 use mathlib.Core.List.{List}

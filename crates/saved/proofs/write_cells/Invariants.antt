@@ -1,13 +1,9 @@
 -- `saved::write_cells` meets its contract. The invariant of its loop: the room is written with the first k blocks of cells. The measure is how many cells are left.
 -- Assumes nothing.
 use Prim.Native.Nat.{◌*◌, ◌-◌}
-use native.Mathlib.Omega.{arith}
-use borrow.Author.Rules.{rules}
-use lib.ListN.{length, length-take, length-drop}
+use lib.ListN.{length}
 use Rattle.fileblocks.specs.FileBlock.{content_bytes}
-use Rattle.saved.specs.File.{file_blocks_for}
-use Rattle.rooms.proofs.Written.{written_length}
-use Rattle.saved.proofs.Cells.{CellsWritten, cells_none, cells_more, cells_room, cells_all}
+use Rattle.saved.proofs.Cells.{CellsWritten}
 use Rattle.saved.proofs.write_cells.Given as goal
 
 abbrev pub invariant-loop-k : goal.invariant-loop-k
