@@ -1,5 +1,5 @@
-// The door for programs in other languages: one function for each public operation but the report, called as a C function is.
-// Every function is proved and asks nothing of its caller. A slice goes in as a pointer and a length.
+// The door for programs in other languages: one function for each public operation but the report. Crate exports_c has each once more,
+// under the same name and with the same promise, as what C calls. Every function is proved and asks nothing of its caller.
 // An answer's refusal is 0, or the refusal's number; then all else in it is 0 but the place of the source that it concerns, if any,
 // and nothing lent was changed. Where no refusal concerns a source of a list, the answer has no place.
 ghost use Rattle.std.specs.Prelude.{◌≡◌};
@@ -307,16 +307,14 @@ fn run_with(window: u32, interval: u32, first: u32, last: u32) -> Run
 }
 
 // Public operation: `vectors::step_vectors`, its reply in numbers.
-#[unsafe(no_mangle)]
-pub extern "C" fn zenithgong_step_vectors(period: u32, remainder: u32, window: u32) -> StepsReply
+pub fn zenithgong_step_vectors(period: u32, remainder: u32, window: u32) -> StepsReply
     ensures { Exported (VectorsPromise period remainder window) tell_steps result }
 {
     tell_steps(vectors::step_vectors(period, remainder, window))
 }
 
 // Public operation: `hits::first_hit` of the run with these four numbers, its reply in numbers.
-#[unsafe(no_mangle)]
-pub extern "C" fn zenithgong_first_hit(
+pub fn zenithgong_first_hit(
     window: u32,
     interval: u32,
     first: u32,
@@ -332,8 +330,7 @@ pub extern "C" fn zenithgong_first_hit(
 }
 
 // Public operation: `hits::list_hits` of the run with these four numbers, its reply in numbers.
-#[unsafe(no_mangle)]
-pub extern "C" fn zenithgong_list_hits(
+pub fn zenithgong_list_hits(
     window: u32,
     interval: u32,
     first: u32,
@@ -350,8 +347,7 @@ pub extern "C" fn zenithgong_list_hits(
 }
 
 // Public operation: `map::make_map` for the run with these four numbers, its reply in numbers. The map starts clean.
-#[unsafe(no_mangle)]
-pub extern "C" fn zenithgong_make_map(
+pub fn zenithgong_make_map(
     window: u32,
     interval: u32,
     first: u32,
@@ -368,8 +364,7 @@ pub extern "C" fn zenithgong_make_map(
 }
 
 // Public operation: `map::add_to_map` for the run with these four numbers, its reply in numbers. The map is added to as it was lent.
-#[unsafe(no_mangle)]
-pub extern "C" fn zenithgong_add_to_map(
+pub fn zenithgong_add_to_map(
     window: u32,
     interval: u32,
     first: u32,
@@ -387,8 +382,7 @@ pub extern "C" fn zenithgong_add_to_map(
 
 // Public operation: `blanking::list_stretches` for the run with these four numbers and the guard with these two offsets, its reply in
 // numbers.
-#[unsafe(no_mangle)]
-pub extern "C" fn zenithgong_list_stretches(
+pub fn zenithgong_list_stretches(
     window: u32,
     interval: u32,
     first: u32,
@@ -406,8 +400,7 @@ pub extern "C" fn zenithgong_list_stretches(
 }
 
 // Public operation: `saved::save` for the run with these four numbers. 0 when done, else the refusal's number.
-#[unsafe(no_mangle)]
-pub extern "C" fn zenithgong_save(
+pub fn zenithgong_save(
     window: u32,
     interval: u32,
     first: u32,
@@ -422,16 +415,14 @@ pub extern "C" fn zenithgong_save(
 }
 
 // Public operation: `saved::read`, its reply in numbers.
-#[unsafe(no_mangle)]
-pub extern "C" fn zenithgong_read(file: &[u8], map: &mut [u8]) -> RunReply
+pub fn zenithgong_read(file: &[u8], map: &mut [u8]) -> RunReply
     ensures { Exported (λ reply. ReadingPromise file.now map.old reply map.new) tell_loaded result }
 {
     tell_loaded(saved::read(file, map))
 }
 
 // Public operation: `text::read_text`, its reply in numbers.
-#[unsafe(no_mangle)]
-pub extern "C" fn zenithgong_read_text(text: &[u8]) -> TextReply
+pub fn zenithgong_read_text(text: &[u8]) -> TextReply
     ensures { Exported (TextPromise text.now) tell_text result }
 {
     tell_text(text::read_text(text))
