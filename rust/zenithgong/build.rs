@@ -1,4 +1,4 @@
-//! Links the archive that `rt staticlib exports` writes.
+//! Links the archive that `rust/archive` writes.
 use std::path::Path;
 
 fn main() {
@@ -7,7 +7,7 @@ fn main() {
     println!("cargo:rerun-if-changed={}", archive.display());
     assert!(
         archive.exists(),
-        "no libexports.a in target/staticlib: run `rt staticlib exports` first"
+        "no libexports.a in target/staticlib: run `rust/archive` first"
     );
     println!("cargo:rustc-link-search=native={}", folder.display());
     println!("cargo:rustc-link-lib=static=exports");

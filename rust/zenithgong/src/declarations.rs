@@ -1,4 +1,4 @@
-//! The exported functions and the answers that they give, as `crates/exports/src/lib.rt` has them.
+//! The exported functions (`crates/exports_c/src/lib.rt`) and the answers that they give (`crates/exports/src/lib.rt`).
 //! A slice there is a pointer and a length here. `tests/compare/declarations.rs` holds this file to that one.
 //!
 //! Any numbers and any lengths may be given, but memory cannot be judged. So a caller owes this much, in C too:

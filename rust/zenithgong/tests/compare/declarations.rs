@@ -1,9 +1,10 @@
-//! Nothing else holds the declarations to the Rattle source: its exported functions and the structs that they
-//! answer with are read here, and must be what `declarations.rs` has, in the same order.
+//! Nothing else holds the declarations to the Rattle source: its exported functions (crate exports_c) and the structs that
+//! they answer with (crate exports) are read here, and must be what `declarations.rs` has, in the same order.
 use std::mem::size_of;
 use zenithgong::declarations::{BlankingReply, MappedReply, RunReply, TextReply};
 
-const RATTLE: &str = include_str!("../../../../crates/exports/src/lib.rt");
+const ANSWERS: &str = include_str!("../../../../crates/exports/src/lib.rt");
+const EXPORTS: &str = include_str!("../../../../crates/exports_c/src/lib.rt");
 const RUST: &str = include_str!("../../src/declarations.rs");
 
 /// The text without comments and attributes' line ends, each run of blanks one space.
@@ -30,9 +31,9 @@ fn parts(list: &str) -> Vec<String> {
         .collect()
 }
 
-/// Each `repr(C)` struct as its name and its fields.
-fn structs(text: &str) -> Vec<(String, Vec<String>)> {
-    let declared = between(text, "#[repr(C)] pub struct ", "}");
+/// Each struct that begins so, in `repr(C)`, as its name and its fields.
+fn structs(text: &str, start: &str) -> Vec<(String, Vec<String>)> {
+    let declared = between(text, start, "}");
     declared
         .iter()
         .map(|one| one.split_once(" {").unwrap())
@@ -72,13 +73,18 @@ fn functions(text: &str, start: &str, end: &str) -> Vec<(String, Vec<String>, St
 
 #[test]
 fn declarations_are_the_exports() {
-    let (rattle, rust) = (plain(RATTLE), plain(RUST));
-    let answers = structs(&rattle);
-    assert_eq!(structs(&rust), answers);
-    assert_eq!(answers.len(), rattle.matches("struct ").count());
+    let (told, rattle, rust) = (plain(ANSWERS), plain(EXPORTS), plain(RUST));
+    let answers = structs(&told, "#[repr(C)] #[derive(Drop)] pub struct ");
+    assert_eq!(structs(&rust, "#[repr(C)] pub struct "), answers);
+    assert_eq!(answers.len(), told.matches("struct ").count());
+    assert_eq!(0, rattle.matches("struct ").count());
     assert_eq!(answers.len(), rust.matches("struct ").count());
     assert!(answers.iter().all(|(_, fields)| fields.len() >= 2));
-    let exported = functions(&rattle, "#[no_mangle] pub extern \"C\" fn ", " ensures");
+    let exported = functions(
+        &rattle,
+        "#[unsafe(no_mangle)] pub extern \"C\" fn ",
+        " ensures",
+    );
     assert_eq!(functions(&rust, "pub fn ", ";"), exported);
     assert_eq!(exported.len(), rattle.matches("no_mangle").count());
     assert!(exported.len() >= 9);
