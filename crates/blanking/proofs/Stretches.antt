@@ -1,6 +1,6 @@
 -- The maximal stretches of lines that are so, whatever that is, taken one after the other from a line on: there is one list of them,
 -- and from stretch to stretch it is gone through by two questions, where a stretch ends and where the next begins. Assumes nothing.
-use Prim.Native.Nat.{ℕ, zero, suc, ◌+◌, ◌-◌, ◌*◌, ◌≤◌, ◌<◌}
+use Prim.Native.Nat.{ℕ, zero, suc, ◌+◌, ◌*◌, ◌≤◌, ◌<◌}
 use native.Mathlib.Decide.{dec_lt, dec_le}
 use native.Mathlib.Omega.{arith}
 use native.Mathlib.Numerals.{add-one}

@@ -1,5 +1,7 @@
 // The blanking list of a map: the stretches of lines that each have a guard cell at or above a threshold.
 // Every function is proved. `list_stretches` is the one public operation here, and it asks nothing of its caller.
+#![tactic(auto)]
+
 ghost use Rattle.std.specs.Prelude.{◌≡◌, true, ◌↔◌, ◌+◌, ◌/◌, ◌≤◌, pos, ◌+ℤ◌};
 ghost use Rattle.scope.specs.Refusal.{complaint};
 ghost use Rattle.scope.specs.Inner.{verdict};

@@ -120,8 +120,8 @@ fn write_source(
     source: Source,
     weight: u32,
 ) -> usize
-    requires valid_run { ValidRun run × ValidSource source × (cells_of run ≤ most_cells) }
-    requires weight_in_bounds { at + length (entry_report run place (record { source = source; weight = weight })) ≤ length room.old }
+    requires valid { ValidRun run × ValidSource source × (cells_of run ≤ most_cells) }
+    requires fits { at + length (entry_report run place (record { source = source; weight = weight })) ≤ length room.old }
     ensures { Written room.old at (entry_report run place (record { source = source; weight = weight })) result room.new }
 {
     let numbers = [
@@ -143,8 +143,8 @@ fn write_sources(
     weights: &[u32],
     phases: &[u32],
 ) -> usize
-    requires valid_input { ValidInput run periods.now weights.now phases.now }
-    requires phases_in_bounds { at + length (src_report run 1 (entries_of periods.now weights.now phases.now)) ≤ length room.old }
+    requires valid { ValidInput run periods.now weights.now phases.now }
+    requires fits { at + length (src_report run 1 (entries_of periods.now weights.now phases.now)) ≤ length room.old }
     ensures { Written room.old at (src_report run 1 (entries_of periods.now weights.now phases.now)) result room.new }
 {
     let mut next = at;
@@ -160,8 +160,8 @@ fn write_sources(
 
 // Writes the line of a run.
 fn write_run(room: &mut [u8], at: usize, run: Run) -> usize
-    requires valid_run { ValidRun run }
-    requires run_in_bounds { at + length (run_report run) ≤ length room.old }
+    requires valid { ValidRun run }
+    requires fits { at + length (run_report run) ≤ length room.old }
     ensures { Written room.old at (run_report run) result room.new }
 {
     let numbers = [
@@ -184,11 +184,11 @@ fn write_map_of(
     phases: &[u32],
     map: &mut [u8],
 ) -> usize
-    requires valid_input { ValidInput run periods.now weights.now phases.now }
-    requires map_len { length map.old ≡ cells_of run }
-    requires phases_in_bounds { at + length (cells_report run (entries_of periods.now weights.now phases.now)) ≤ length room.old }
+    requires valid { ValidInput run periods.now weights.now phases.now }
+    requires whole { length map.old ≡ cells_of run }
+    requires fits { at + length (cells_report run (entries_of periods.now weights.now phases.now)) ≤ length room.old }
     ensures written { Written room.old at (cells_report run (entries_of periods.now weights.now phases.now)) result room.new }
-    ensures map_after { map.new ≡ reported_map run (entries_of periods.now weights.now phases.now) }
+    ensures mapped { map.new ≡ reported_map run (entries_of periods.now weights.now phases.now) }
 {
     map::make_map(run, periods, weights, phases, map);
     write_cells(room, at, map)
@@ -202,8 +202,8 @@ fn write_report(
     weights: &[u32],
     phases: &[u32],
 ) -> usize
-    requires valid_input { ValidInput run periods.now weights.now phases.now }
-    requires phases_in_bounds { 0 + length (whole_report run (entries_of periods.now weights.now phases.now)) ≤ length room.old }
+    requires valid { ValidInput run periods.now weights.now phases.now }
+    requires fits { 0 + length (whole_report run (entries_of periods.now weights.now phases.now)) ≤ length room.old }
     ensures { Written room.old 0 (whole_report run (entries_of periods.now weights.now phases.now)) result room.new }
 {
     let after_run = write_run(room, 0, run);

@@ -1,20 +1,15 @@
 -- `blanking::largest` meets its contract. The loop's invariant: of the cells below `at` it is the largest so far. The measure is what is
 -- left of the length. Assumes nothing.
-use Prim.Native.Nat.{ℕ, ◌+◌, ◌-◌, ◌≤◌, ◌<◌, max}
+use Prim.Native.Nat.{ℕ, ◌+◌, ◌≤◌, ◌<◌, max}
 use native.Mathlib.Omega.{arith}
 use native.Mathlib.Decide.{dec_le, dec_lt}
-use mathlib.Core.Logic.{◌↔◌, ⊎_elim}
 use mathlib.Core.List.{List}
 use mathlib.Core.Path.{◌≡◌}
 use lib.ListN.{length, get_or}
 use Rattle.blanking.specs.Inner.{Largest}
-use Rattle.blanking.proofs.largest.Statement.{statement}
-use Rattle.blanking.proofs.largest.Tie as tie
-
--- the largest of the cells below `at`
-record LargestBelow (cells : List ℕ) (top at : ℕ) : Type 0 where
-  within : at ≤ length cells
-  is : (t : ℕ) → 1 ≤ t → (t ≤ top) ↔ ((k : ℕ) × (k < at) × (t ≤ get_or cells k 0))
+use Rattle.blanking.proofs.largest.Goals as goal
+use Rattle.blanking.proofs.largest.Goals.{then-top-cells, else-top-cells}
+use Rattle.blanking.proofs.largest.Invariants.{LargestBelow}
 
 -- of no cell it is 0
 none_below : (cells : List ℕ) → LargestBelow cells 0 0
@@ -38,45 +33,23 @@ largest_all l end t some = (
   λ r. (l.is t some).1 (r.0, omega (arith, r.1), r.2),
 )
 
-abbrev invariant-loop : tie.invariant-loop
-invariant-loop cells top₀ at₀ top at = LargestBelow cells top at
+pub loop-at-init : goal.loop-at-init
+loop-at-init c = none_below _
 
-abbrev decreases-loop : tie.decreases-loop
-decreases-loop cells top₀ at₀ top at = length cells - at
+pub bounds-cells-at : goal.bounds-cells-at
+bounds-cells-at c = omega arith
 
-loop-holds : tie.Need-loop-init invariant-loop decreases-loop
-loop-holds c = none_below _
+pub bounds-cells-at-then-top-cells : goal.bounds-cells-at-then-top-cells
+bounds-cells-at-then-top-cells c = omega arith
 
-shared-slice-read-if1 : tie.Need-shared-slice-read-if1 invariant-loop decreases-loop
-shared-slice-read-if1 c = omega arith
+pub overflow_add-at : goal.overflow_add-at
+overflow_add-at c = omega arith
 
-shared-slice-read-top : tie.Need-shared-slice-read-top invariant-loop decreases-loop
-shared-slice-read-top c = omega arith
+pub loop-at-smaller : goal.loop-at-smaller
+loop-at-smaller c = omega arith
 
-add_at : tie.Need-overflow-add-at invariant-loop decreases-loop
-add_at c = omega arith
+pub loop-at-preserved : goal.loop-at-preserved
+loop-at-preserved c = step c.loop-at.invariant c.loop-at-test.true (elim c.if-top-cells.branch [ then-top-cells w ↦ omega arith | else-top-cells w ↦ omega arith ])
 
-loop-less : tie.Need-loop-smaller invariant-loop decreases-loop
-loop-less c = omega arith
-
-loop-again : tie.Need-loop-preserved invariant-loop decreases-loop
-loop-again c =
-    let l = c.before.before.before in
-    step l.loop.invariant c.before.before.loop-test.true (⊎_elim (λ w. omega arith) (λ w. omega arith) c.if1.branch)
-
-returns : tie.Need-returns invariant-loop decreases-loop
-returns c = largest_all c.before.loop.invariant (omega arith)
-
-pub largest_spec : {M : Type 1} → statement M
-largest_spec =
-    tie.close
-    (tie.spec
-    invariant-loop
-    decreases-loop
-    loop-holds
-    shared-slice-read-if1
-    shared-slice-read-top
-    add_at
-    loop-less
-    loop-again
-    returns)
+pub returns : goal.returns
+returns c = largest_all c.loop-at.invariant (omega arith)

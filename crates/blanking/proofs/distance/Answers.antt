@@ -1,5 +1,4 @@
 -- `blanking::distance` meets its contract: both numbers are small, and the offset is no further left than half the window. Assumes nothing.
-use borrow.Author.Rules.{rules}
 use native.Mathlib.Omega.{arith}
 use Prim.Native.Nat.{ℕ, ◌/◌}
 use mathlib.Core.Path.{◌≡◌}
@@ -10,8 +9,7 @@ use mir.Val.{SFits}
 use mir.Facts.{to_z-of_z, to_z_pos, Fits-nat_abs}
 use Rattle.signed.proofs.Parts.{parts, sum, apart, neg_up, neg_dn, abs_parts}
 use Rattle.blanking.specs.Inner.{Within}
-use Rattle.blanking.proofs.distance.Statement.{statement}
-use Rattle.blanking.proofs.distance.Tie as tie
+use Rattle.blanking.proofs.distance.Goals as goal
 
 record Held (window : ℕ) (offset : ℤ) : Type 0 where
   fits : SFits w64 offset
@@ -37,26 +35,20 @@ held {window} {offset} h =
       whole = omega (arith, parts, abs_parts (offset +ℤ half));
     }
 
-cast-result : tie.Need-overflow-cast-result
-cast-result c = search rules
-
-add-result : tie.Need-overflow-add-result
-add-result c =
+pub overflow_add-result : goal.overflow_add-result
+overflow_add-result c =
     let h = held c.requires in
     let n = c.requires.narrow in
     simp (to_z_pos w64 {n = c.args.window / 2} (omega arith), to_z-of_z h.fits) h.sum_fits
 
-cast-result-2 : tie.Need-overflow-cast-result-2
-cast-result-2 c =
+pub overflow_cast-result-2 : goal.overflow_cast-result-2
+overflow_cast-result-2 c =
     let h = held c.requires in
     let n = c.requires.narrow in
     simp (to_z_pos w64 {n = c.args.window / 2} (omega arith), to_z-of_z h.fits, to_z-of_z h.sum_fits) (yes_non_neg h.ahead, Fits-nat_abs tt h.sum_fits)
 
-returns : tie.Need-returns
+pub returns : goal.returns
 returns c =
     let h = held c.requires in
     let n = c.requires.narrow in
     simp (to_z_pos w64 {n = c.args.window / 2} (omega arith), to_z-of_z h.fits, to_z-of_z h.sum_fits) h.whole
-
-pub distance_spec : {M : Type 1} → statement M
-distance_spec = tie.close (tie.spec cast-result add-result cast-result-2 returns)

@@ -1,0 +1,8 @@
+-- `report::blank` meets its contract. Assumes nothing.
+use mathlib.Core.Path.{refl}
+use Rattle.rooms.specs.Lists.{zeros}
+use Rattle.report.proofs.blank.Goals as goal
+
+pub returns : goal.returns
+unfolding zeros
+returns c = refl
