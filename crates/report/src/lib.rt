@@ -1,5 +1,7 @@
 // What the list program prints: a report on a run and its sources, or the refusal.
 // Every function is proved. `report` is the one public operation here, and it asks nothing of its caller.
+#![tactic(auto)]
+
 ghost use Rattle.std.specs.Prelude.{◌+◌, ◌≤◌, ◌≡◌, [], ◌∷◌, ◌++◌, length};
 ghost use Rattle.rooms.specs.Lists.{zeros};
 ghost use Rattle.rooms.specs.Inner.{Written};

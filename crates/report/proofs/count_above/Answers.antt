@@ -1,11 +1,7 @@
 -- `report::count_above` meets its contract. The loop's invariant: `count` of the cells below x are above 0.
 -- The measure is what is left of the map. Assumes nothing.
-use Prim.Native.Nat.{◌-◌}
-use mathlib.Core.Logic.{⊎_elim}
 use native.Mathlib.Omega.{arith}
-use borrow.Author.Rules.{rules}
-use lib.ListN.{length}
-use Rattle.report.proofs.Cells.{Counted, counted_more, counted_same, counted_all}
+use Rattle.report.proofs.Cells.{counted_more, counted_same, counted_all}
 use Rattle.report.proofs.count_above.Goals as goal
 use Rattle.report.proofs.count_above.Goals.{then-map-x-ne0, else-map-x-ne0}
 
@@ -18,8 +14,8 @@ overflow_add-count c = omega (arith, c.loop-x.invariant.few)
 pub loop-x-preserved : goal.loop-x-preserved
 loop-x-preserved c =
     elim c.if-map-x-ne0.branch [
-      then-map-x-ne0 w ↦ counted_more c.loop-x.invariant c.loop-x-test.true w.if-map-x-ne0.true w.count-is
-    | else-map-x-ne0 w ↦ counted_same c.loop-x.invariant c.loop-x-test.true w.if-map-x-ne0.false w.count-is
+      | then-map-x-ne0 w ↦ counted_more c.loop-x.invariant c.loop-x-test.true w.if-map-x-ne0.true w.count-is
+      | else-map-x-ne0 w ↦ counted_same c.loop-x.invariant c.loop-x-test.true w.if-map-x-ne0.false w.count-is
     ]
 
 pub returns : goal.returns

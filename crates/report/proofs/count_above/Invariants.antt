@@ -1,11 +1,8 @@
 -- `report::count_above` meets its contract. The loop's invariant: `count` of the cells below x are above 0.
 -- The measure is what is left of the map. Assumes nothing.
 use Prim.Native.Nat.{◌-◌}
-use mathlib.Core.Logic.{⊎_elim}
-use native.Mathlib.Omega.{arith}
-use borrow.Author.Rules.{rules}
 use lib.ListN.{length}
-use Rattle.report.proofs.Cells.{Counted, counted_more, counted_same, counted_all}
+use Rattle.report.proofs.Cells.{Counted}
 use Rattle.report.proofs.count_above.Given as goal
 
 abbrev pub invariant-loop-x : goal.invariant-loop-x

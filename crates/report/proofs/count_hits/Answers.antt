@@ -1,7 +1,5 @@
 -- `report::count_hits` meets its contract: the listing says "done", with the number of all hits. Assumes nothing.
 use mathlib.Core.Path.{◌≡◌, refl, sym, ap, ◌∙◌}
-use mathlib.Core.Logic.{⊎_elim}
-use Prim.Native.Nat.{ℕ}
 use native.Mathlib.Omega.{arith}
 use lib.ListN.{length}
 use Rattle.text.specs.Promise.{most_cells}
@@ -9,7 +7,6 @@ use Rattle.scope.specs.Hit.{hits_from}
 use Rattle.hits.specs.declared.Listing.TheVariants.{Done}
 use Rattle.rooms.proofs.Lists.{length_zeros}
 use Rattle.report.proofs.Sources.{all_listed}
-use borrow.Author.Rules.{rules}
 use Rattle.report.proofs.count_hits.Goals as goal
 use Rattle.report.proofs.count_hits.Goals.{After-list_hits}
 
@@ -23,9 +20,7 @@ done c =
 
 pub returns-in_default : goal.returns-in_default
 returns-in_default c =
-    let told = c.in_default.keys2 in
-    let is = done (goal.at.returns-in_default c).After-list_hits in
-    ⊎_elim (λ e. let z : ◌≡◌ {A = ℕ} 0 1 = cc in absurd (omega arith)) (λ e. let z : ◌≡◌ {A = ℕ} 0 2 = cc in absurd (omega arith)) told
+    absurd (c.in_default.not-Done _ (done (goal.at.returns-in_default c).After-list_hits))
 
 pub returns : goal.returns
 returns c = let e = sym c.in-Done.is ∙ done (goal.at.returns c).After-list_hits in cc

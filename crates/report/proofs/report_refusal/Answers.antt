@@ -6,7 +6,6 @@ use Rattle.rooms.proofs.Writing.{written_same}
 use Rattle.report.specs.Report.{refusal_report}
 use Rattle.report.specs.Promise.{room_bytes}
 use Rattle.report.proofs.Outputs.{prints}
-use borrow.Author.Rules.{rules}
 use Rattle.report.proofs.report_refusal.Goals as goal
 
 pub write_refusal-length-requires : goal.write_refusal-length-requires

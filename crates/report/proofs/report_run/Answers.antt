@@ -7,7 +7,6 @@ use Rattle.map.proofs.Entries.{entries_length}
 use Rattle.rooms.proofs.Lists.{length_zeros}
 use Rattle.report.proofs.Longest.{whole_long}
 use Rattle.report.proofs.Outputs.{prints}
-use borrow.Author.Rules.{rules}
 use Rattle.report.proofs.report_run.Goals as goal
 
 pub write_report-length-requires : goal.write_report-length-requires

@@ -9,7 +9,6 @@ use Rattle.rooms.proofs.Written.{written_none}
 use Rattle.report.specs.Report.{map_word, cell_report}
 use Rattle.rooms.proofs.Writing.{written_same}
 use Rattle.report.proofs.Cells.{cell_none, cell_line}
-use borrow.Author.Rules.{rules}
 use Rattle.report.proofs.write_cell.Goals as goal
 use Rattle.report.proofs.write_cell.Goals.{After-wide}
 

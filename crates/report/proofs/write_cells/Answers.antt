@@ -4,7 +4,6 @@ use mathlib.Core.List.{[], ◌∷◌, ◌++◌}
 use Rattle.words.specs.Line.{line}
 use Rattle.report.specs.Report.{end_word, map_report, end_report}
 use Rattle.rooms.proofs.Writing.{Writing, writing_starts, writing_more, writing_last, piece_fits, last_fits, written_same}
-use borrow.Author.Rules.{rules}
 use Rattle.report.proofs.write_cells.Goals as goal
 use Rattle.report.proofs.write_cells.Goals.{After-count_above, After-shared_slice_known-1, After-write_map-next}
 

@@ -1,10 +1,8 @@
 -- `report::write_map` meets its contract. The loop's invariant: the lines of the cells below x are written.
 -- The measure is what is left of the map. Assumes nothing.
 use Prim.Native.Nat.{◌-◌}
-use borrow.Author.Rules.{rules}
 use lib.ListN.{length}
-use Rattle.rooms.proofs.Writing.{writing_starts, writing_long}
-use Rattle.report.proofs.Cells.{MapLines, cell_fits, cell_written, map_written}
+use Rattle.report.proofs.Cells.{MapLines}
 use Rattle.report.proofs.write_map.Given as goal
 
 abbrev pub invariant-loop-x : goal.invariant-loop-x

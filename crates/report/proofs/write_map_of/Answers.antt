@@ -5,7 +5,6 @@ use Rattle.sources.specs.Entry.{entries_of}
 use Rattle.report.specs.Report.{map_report, end_report, reported_map, cells_report}
 use Rattle.rooms.proofs.Writing.{written_same, fits_same}
 use Rattle.report.proofs.Mapped.{map_is}
-use borrow.Author.Rules.{rules}
 use Rattle.report.proofs.write_map_of.Goals as goal
 use Rattle.report.proofs.write_map_of.Goals.{After-make_map}
 

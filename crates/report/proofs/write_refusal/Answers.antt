@@ -1,7 +1,6 @@
 -- `report::write_refusal` meets its contract: the word and the number, and behind them the place of a source. Assumes nothing.
 use native.Mathlib.Omega.{arith}
 use mathlib.Core.Path.{sym, ap, ◌∙◌}
-use borrow.Author.Rules.{rules}
 use Rattle.rooms.proofs.Writing.{written_same}
 use Rattle.rooms.proofs.Written.{written_length}
 use Rattle.report.specs.Report.{refusal_report}

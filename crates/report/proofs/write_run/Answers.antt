@@ -5,7 +5,6 @@ use Rattle.words.specs.Line.{line}
 use Rattle.text.specs.Form.{run_word, run_numbers}
 use Rattle.report.specs.Report.{run_report}
 use Rattle.rooms.proofs.Writing.{written_same, fits_same}
-use borrow.Author.Rules.{rules}
 use Rattle.report.proofs.write_run.Goals as goal
 use Rattle.report.proofs.write_run.Goals.{After-cells}
 

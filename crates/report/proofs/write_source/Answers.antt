@@ -5,7 +5,6 @@ use Rattle.words.specs.Line.{line}
 use Rattle.text.specs.Form.{src_word}
 use Rattle.report.specs.Report.{entry_report}
 use Rattle.rooms.proofs.Writing.{written_same, fits_same}
-use borrow.Author.Rules.{rules}
 use Rattle.report.proofs.write_source.Goals as goal
 use Rattle.report.proofs.write_source.Goals.{After-count_hits}
 

@@ -1,10 +1,8 @@
 -- `report::write_sources` meets its contract. The loop's invariant: the lines of the sources before place k are written, and those from
 -- there on are within the limits. The measure is what is left of the list. Assumes nothing.
 use Prim.Native.Nat.{◌-◌}
-use borrow.Author.Rules.{rules}
 use lib.ListN.{length}
-use Rattle.rooms.proofs.Writing.{writing_long}
-use Rattle.report.proofs.Sources.{SrcLines, src_starts, src_valid, src_fits, src_written, src_ends}
+use Rattle.report.proofs.Sources.{SrcLines}
 use Rattle.report.proofs.write_sources.Given as goal
 
 abbrev pub invariant-loop-k : goal.invariant-loop-k
