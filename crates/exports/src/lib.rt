@@ -2,6 +2,8 @@
 // under the same name and with the same promise, as what C calls. Every function is proved and asks nothing of its caller.
 // An answer's refusal is 0, or the refusal's number; then all else in it is 0 but the place of the source that it concerns, if any,
 // and nothing lent was changed. Where no refusal concerns a source of a list, the answer has no place.
+#![tactic(auto)]
+
 ghost use Rattle.std.specs.Prelude.{◌≡◌};
 ghost use Rattle.scope.specs.Run.{run_with};
 ghost use Rattle.vectors.specs.Promise.{VectorsPromise};

@@ -1,0 +1,11 @@
+-- Each arm of the match tells its own case of the reply.
+-- Assumes nothing.
+use mathlib.Core.Path.{sym, ap}
+use Rattle.exports.specs.Replies.{tell_mapped}
+use Rattle.exports.proofs.tell_mapped.Goals as goal
+
+pub returns-in-Done : goal.returns-in-Done
+returns-in-Done c = sym (ap tell_mapped c.in-Done.is)
+
+pub returns-in-Refused : goal.returns-in-Refused
+returns-in-Refused c = simp (c.number_of.ensures, c.tell_place.ensures) (sym (ap tell_mapped c.in-Refused.is))
