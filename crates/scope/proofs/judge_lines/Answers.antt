@@ -1,4 +1,5 @@
 -- `scope::judge_lines` meets its contract: each return is the first test that fails, or none. Assumes nothing.
+use native.Mathlib.Omega.{arith}
 use borrow.Author.Tests.{lt-ltb, le-ltb}
 use Rattle.scope.specs.Refusal.{line_tests}
 use Rattle.scope.proofs.Judged.{broken, sound, first, then, both, refuse_verdict, grant_verdict}
@@ -10,7 +11,7 @@ returns-then-last-first c = refuse_verdict (first (broken (lt-ltb _ _ c.if-last-
 
 pub returns-then-last-gt16777216 : goal.returns-then-last-gt16777216
 unfolding line_tests
-returns-then-last-gt16777216 c = refuse_verdict (then (sound (le-ltb _ _ c.if-last-first.false)) (broken (lt-ltb _ _ c.if-last-gt16777216.true)))
+returns-then-last-gt16777216 c = refuse_verdict (then (sound (le-ltb _ _ (omega arith))) (broken (lt-ltb _ _ c.if-last-gt16777216.true)))
 
 pub returns : goal.returns
 unfolding line_tests
