@@ -15,4 +15,4 @@ returns-then-last-gt16777216 c = refuse_verdict (then (sound (le-ltb _ _ (omega 
 
 pub returns : goal.returns
 unfolding line_tests
-returns c = grant_verdict (both (sound (le-ltb _ _ c.if-last-first.false)) (sound (le-ltb _ _ c.if-last-gt16777216.false)))
+returns c = grant_verdict (both (sound (le-ltb _ _ (omega arith))) (sound (le-ltb _ _ (omega arith))))

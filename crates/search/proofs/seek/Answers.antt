@@ -1,8 +1,8 @@
 -- `search::seek` meets its contract: from a stage to the next, the point comes nearer and passes over nothing.
 -- The measure is the size of the last offset, which falls from a vector to the next. Assumes nothing.
-use mathlib.Core.Path.{sym, ap, ◌∙◌}
+use mathlib.Core.Path.{◌≡◌, sym, ap, ◌∙◌}
 use Prim.Native.Nat.{◌<◌}
-use lib.IntN.{nat_abs}
+use lib.IntN.{ℤ, pos, nat_abs}
 use mir.Syntax.{w64}
 use mir.Val.{to_z, of_z}
 use mir.Facts.{to_z-of_z}
@@ -10,7 +10,7 @@ use Rattle.vectors.proofs.Sequence.{onward, later, falls, some_size, held_last, 
 use Rattle.search.specs.declared.Found.TheVariants.{At, Nothing}
 use Rattle.search.proofs.Descent.{approaching, seeking, sought_past, sought_here, sought_never, sought_on}
 use Rattle.search.proofs.seek.Goals as goal
-use Rattle.search.proofs.seek.Goals.{At-loop-at, Else-last-eq0}
+use Rattle.search.proofs.seek.Goals.{At-loop-at}
 use Rattle.search.proofs.seek.Invariants.{GoesOn}
 
 -- where the loop stands, the search goes on
@@ -18,8 +18,8 @@ on : (c : At-loop-at) → let s = c.args in let l = c.loop-at in GoesOn s.window
 on c = c.loop-at.invariant
 
 -- past the test for 0, the last vector moves
-some : (c : Else-last-eq0) → 0 < nat_abs c.loop-at.last.offset
-some c = some_size c.loop-at.last.offset (λ e. c.if-last-eq0.false (ap (of_z w64) e))
+some : (x : ℤ) → (of_z w64 x ≡ of_z w64 (pos 0) → ⊥) → 0 < nat_abs x
+some x unlike = some_size x (λ e. unlike (ap (of_z w64) e))
 
 pub loop-at-init : goal.loop-at-init
 loop-at-init c = record { seeks = c.requires; same = λ p q st. st; leads = λ p q r st s. s }
@@ -34,23 +34,23 @@ returns-then-last-eq0 c =
     λ p q st. w.leads p q Nothing st (sought_never c.loop-at.at (w.same p q st) e w.seeks.below c.if-at-window.false)
 
 pub next-after-requires : goal.next-after-requires
-next-after-requires c = goes (on (goal.at.next-after-requires c).At-loop-at).seeks.division (some (goal.at.next-after-requires c).Else-last-eq0)
+next-after-requires c = goes (on (goal.at.next-after-requires c).At-loop-at).seeks.division (some c.loop-at.last.offset assumption)
 
 pub approach-at-requires : goal.approach-at-requires
-approach-at-requires c = approaching (on (goal.at.approach-at-requires c).At-loop-at).seeks c.loop-at-test.true c.if-at-window.false (some (goal.at.approach-at-requires c).Else-last-eq0)
+approach-at-requires c = approaching (on (goal.at.approach-at-requires c).At-loop-at).seeks c.loop-at-test.true c.if-at-window.false (some c.loop-at.last.offset assumption)
 
 pub loop-at-smaller : goal.loop-at-smaller
 loop-at-smaller c =
     let d = (on (goal.at.loop-at-smaller c).At-loop-at).seeks.division in
-    rw c.next-after.ensures (falls (later d (some (goal.at.loop-at-smaller c).Else-last-eq0)).at)
+    rw c.next-after.ensures (falls (later d (some c.loop-at.last.offset assumption)).at)
 
 pub loop-at-preserved : goal.loop-at-preserved
 loop-at-preserved c =
     let w = on (goal.at.loop-at-preserved c).At-loop-at in
     let nearer = c.approach-at.ensures in
     rw c.next-after.ensures (record {
-      seeks = seeking w.seeks (some (goal.at.loop-at-preserved c).Else-last-eq0) nearer;
-      same = λ p q st. onward (w.same p q st) (some (goal.at.loop-at-preserved c).Else-last-eq0);
+      seeks = seeking w.seeks (some c.loop-at.last.offset assumption) nearer;
+      same = λ p q st. onward (w.same p q st) (some c.loop-at.last.offset assumption);
       leads = λ p q r st s. w.leads p q r st (sought_on _ r (nearer p q (w.same p q st)) s);
     })
 

@@ -1,4 +1,6 @@
 -- `sources::judge_length` meets its contract: the list is not as long, or it is. Assumes nothing.
+use native.Mathlib.Omega.{arith}
+use lib.ListN.{length}
 use mathlib.Core.Path.{ap}
 use mathlib.Core.Bool.{not}
 use borrow.Author.Tests.{eq-eqb, ne_eqb}
@@ -12,4 +14,4 @@ returns-then-periods-beside c = refuse_verdict (broken (ap not (ne_eqb _ _ c.if-
 
 pub returns : goal.returns
 unfolding length_tests
-returns c = grant_verdict (sound (ap not (eq-eqb _ _ c.if-periods-beside.false)))
+returns c = grant_verdict (sound (ap not (eq-eqb (length c.args.periods.now) (length c.args.beside.now) (omega arith))))

@@ -34,4 +34,4 @@ pub returns : goal.returns
 returns c =
     let sources = c.read_sources in
     all_lines (subst (LineAt _ _ _ _ _ _) c.in-Next.is c.read_line-run.ensures) (c.read_line-run.auto.room ∙ c.requires)
-    (omega (arith, c.if-text-gt-LONGEST.false)) _ _ _ _ _ _ _ _ sources.result sources.ensures
+    (omega arith) _ _ _ _ _ _ _ _ sources.result sources.ensures

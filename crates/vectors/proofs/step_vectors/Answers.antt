@@ -51,7 +51,7 @@ returns-then-period-remainder c = refuse _ _ _ (first (then (pass (goal.at.retur
 
 pub returns-then-period-window : goal.returns-then-period-window
 unfolding VectorsPromise vectors_tests
-returns-then-period-window c = refuse _ _ _ (then (both (pass (goal.at.returns-then-period-window c).In_default-judge_period) (sound (lt-leb _ _ c.if-period-remainder.false))) (broken (lt-ltb _ _ c.if-period-window.true)))
+returns-then-period-window c = refuse _ _ _ (then (both (pass (goal.at.returns-then-period-window c).In_default-judge_period) (sound (lt-leb _ _ (omega arith)))) (broken (lt-ltb _ _ c.if-period-window.true)))
 
 pub find_basis-requires : goal.find_basis-requires
 find_basis-requires c =
