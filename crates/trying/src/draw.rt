@@ -54,7 +54,7 @@ fn first_line(state: u64) -> u32 {
 }
 
 // A run of at most 12 lines, and a source that its interval goes with.
-#[derive(Drop)]
+#[derive(Clone, Copy)]
 pub struct Case {
     pub run: Run,
     pub source: Source,

@@ -4,7 +4,7 @@ use crate::numbers;
 use scope::{Run, Source};
 
 // A refusal: its number, or 0 for none, and the place in its list of the source that it concerns, counted from 1, or 0 for none.
-#[derive(Drop)]
+#[derive(Clone, Copy)]
 pub struct Refusal {
     pub number: u8,
     pub place: u64,
@@ -114,7 +114,7 @@ pub fn count_above(map: &[u8]) -> u32 {
 }
 
 // What a listing is to answer: the count written, and the next hit, or the number of cells if there is none.
-#[derive(Drop)]
+#[derive(Clone, Copy)]
 pub struct Listed {
     pub count: usize,
     pub next: u64,

@@ -1,5 +1,6 @@
 // The text of a run and its sources, as 01 and 02 have it.
 use crate::{numbers, reference};
+use itoa::Buffer;
 use scope::{Run, Source};
 
 // Puts words at a position of a room, and answers the one after them.
@@ -16,10 +17,9 @@ pub fn put_words(room: &mut [u8], at: usize, words: &[u8]) -> usize {
 
 // Puts a space and a number.
 pub fn put_number(room: &mut [u8], at: usize, number: u32) -> usize {
-    let mut digits = [0u8; 20];
+    let mut digits = Buffer::new();
     let next = put_words(room, at, b" ");
-    let count = io::decimal(number as u64, &mut digits);
-    put_words(room, next, &digits[..count])
+    put_words(room, next, digits.format(number).as_bytes())
 }
 
 // Puts the numbers of a run after its word.

@@ -3,6 +3,7 @@
 use crate::reference::Refusal;
 use crate::{numbers, reference};
 use scope::Run;
+use std::io;
 
 // The lines of crate trial. Another program has its own.
 pub const VECTORS: usize = 0;
@@ -129,14 +130,12 @@ pub fn count_sources(
 }
 
 // Prints what was counted under a line, after some words.
-pub fn print(ledger: &[u64], line: usize, words: &[u8]) {
+pub fn print(rt: &impl Print, ledger: &[u64], line: usize, words: &[u8]) -> io::Result<()> {
     if LINES <= line {
-        return;
+        return Ok(());
     }
-    io::write_all(1, words);
-    io::write_all(1, b": ");
-    io::print_decimal(1, numbers::long_at(ledger, line));
-    io::write_all(1, b" tried, ");
-    io::print_decimal(1, numbers::long_at(ledger, line + LINES));
-    io::write_all(1, b" bad\n");
+    let tried = numbers::long_at(ledger, line);
+    let bad = numbers::long_at(ledger, line + LINES);
+    rt.write_all(words)?;
+    println!(rt; ": {tried} tried, {bad} bad")
 }
