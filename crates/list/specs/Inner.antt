@@ -1,9 +1,14 @@
 -- What the two steps of the list program's reading are held to.
-use Rattle.std.specs.Prelude.{ℕ, ◌≤◌, ◌<◌, ◌≡◌, ℤ, pos, negsuc}
-use Rattle.io.specs.Counts.{clamp_len}
+use Rattle.std.specs.Prelude.{ℕ, ◌≤◌, ◌<◌, ◌≡◌, ℤ, pos, negsuc, Result, Ok, Err}
+use Rattle.std.specs.Counts.{clamp_len}
 use Rattle.list.specs.declared.Reading.{Reading}
 use Rattle.list.specs.declared.Input.{Input}
 use Rattle.list.specs.declared.Input.TheVariants.{Text, Failed}
+
+-- A read's answer as one number: how many bytes it brought, or -1 where it failed.
+unfoldable pub answer_of : {E : Type 0} → Result ℕ E → ℤ
+answer_of (Ok count) = pos count
+answer_of (Err e) = negsuc 0
 
 -- The reading stopped because the room was full, or because the last read brought nothing.
 pub record Stopped (room : ℕ) (reading : Reading) : Type 0 where

@@ -1,4 +1,4 @@
--- What the list program hands on, as far as the contract of `libc::read` goes: by what the last read answered, which is a number of bytes,
+-- What the list program hands on, as far as the contract of a read goes: by what the last read answered, which is a number of bytes,
 -- 0 at the end of the input, or -1 where it failed.
 use Rattle.std.specs.Prelude.{ℕ, ◌≤◌, ◌≡◌, List, length, pos}
 use Rattle.list.specs.declared.Reading.{Reading}

@@ -1,18 +1,12 @@
 -- `list::input_of` meets its contract. The last answer is an isize, so that its bits stand for itself. Assumes nothing.
-use Prim.Native.Nat.{ℕ, ◌<◌, ◌^◌}
+use Rattle.std.proofs.Common.{ℕ, ◌≡◌, refl, true, false, ℤ, pos, negsuc, arith, w64, ◌<◌}
 use borrow.Author.Tests.{ltb-true}
-use native.Mathlib.Omega.{arith}
-use mathlib.Core.Path.{◌≡◌, refl}
-use mathlib.Core.Bool.{true, false}
-use lib.IntN.{ℤ, pos, negsuc}
 use lib.Signed.{lt_z, mag}
-use mir.Syntax.{w64}
-use mir.Val.{hbits, to_z, of_z}
+use mir.Val.{to_z, of_z}
 use mir.Facts.{to_z-of_z}
 use Rattle.list.specs.declared.Input.TheVariants.{Text, Failed}
 use Rattle.list.specs.Inner.{input_of, input_from}
-use Rattle.list.proofs.input_of.Statement.{statement}
-use Rattle.list.proofs.input_of.Tie as tie
+use Rattle.list.proofs.input_of.Goals as goal
 
 failed : (count : ℕ) (last : ℤ) → lt_z last (pos 0) ≡ true → Failed ≡ input_from count last
 unfolding input_from
@@ -25,16 +19,13 @@ whole count (pos n) e = refl
 whole count (negsuc n) e = let z : ◌≡◌ {A = ℕ} 0 1 = cc in absurd (omega arith)
 
 -- an isize is read back from its bits
-same : (z : ℤ) → mag z < 2 ^ hbits w64 → to_z w64 (of_z w64 z) ≡ z
-same z fits = to_z-of_z (record { sfits = fits })
+same : (z : ℤ) → mag z < 9223372036854775808 → to_z w64 (of_z w64 z) ≡ z
+same z fits = to_z-of_z {w = w64} {z = z} (record { sfits = fits })
 
-returns : tie.Need-returns
+pub returns-then-last-lt0 : goal.returns-then-last-lt0
 unfolding input_of
-returns c = failed _ _ (simp (same c.before.before.args.reading.last c.before.struct_told.given.1.0.1) at c.if1.true)
+returns-then-last-lt0 c = failed _ _ (simp (same c.args.reading.last (omega arith)) at c.if-last-lt0.true)
 
-returns_2 : tie.Need-returns-2
+pub returns : goal.returns
 unfolding input_of
-returns_2 c = whole _ _ (simp (same c.before.before.args.reading.last c.before.struct_told.given.1.0.1) at c.if1.false)
-
-pub input_of_spec : {M : Type 1} → statement M
-input_of_spec = tie.close (tie.spec returns returns_2)
+returns c = whole _ _ (simp (same c.args.reading.last (omega arith)) at c.if-last-lt0.false)
