@@ -3,6 +3,8 @@
 // cells, 01's layout of a file and the table of refusals. Each line that it prints says how many cases of a kind were tried, and how many
 // of them were bad.
 // Every function is proved safe and ending; that none is bad is what the stored output holds the program to.
+#![tactic(auto)]
+
 mod figures;
 mod files;
 mod listing;
@@ -15,6 +17,7 @@ mod turning;
 
 use mapping::MapCall;
 use scope::Source;
+use std::io;
 use trying::draw::Case;
 use trying::{draw, numbers, reference, tally};
 
@@ -104,150 +107,180 @@ fn try_figures(ledger: &mut [u64]) {
 }
 
 // Prints what was counted of maps of nines.
-fn print_nines(ledger: &[u64]) {
+fn print_nines(rt: &impl Print, ledger: &[u64]) -> io::Result<()> {
     tally::print(
+        rt,
         ledger,
         tally::NO_SOURCES,
         b"map of nines with no sources: made, zeros; added to, nines",
-    );
+    )?;
     tally::print(
+        rt,
         ledger,
         tally::NO_WEIGHT,
         b"map of nines with a weight of 0: refused 7 source 1, nines",
-    );
+    )?;
     tally::print(
+        rt,
         ledger,
         tally::MADE_TWICE,
         b"map of nines made twice with sources 7 60, 3 200",
-    );
+    )
 }
 
 // Prints what was counted of the figures.
-fn print_figures(ledger: &[u64]) {
-    tally::print(ledger, tally::WIDE, b"window 6 with period 4 refused 6");
+fn print_figures(rt: &impl Print, ledger: &[u64]) -> io::Result<()> {
+    tally::print(rt, ledger, tally::WIDE, b"window 6 with period 4 refused 6")?;
     tally::print(
+        rt,
         ledger,
         tally::LAST,
         b"last line 16777216 accepted, 16777217 refused 18",
-    );
+    )?;
     tally::print(
+        rt,
         ledger,
         tally::ZERO_EXAMPLES,
         b"run 4 10 0 5 with sources 7 60, 3 200, and run 2 1 0 0, reported",
-    );
+    )?;
     tally::print(
+        rt,
         ledger,
         tally::ZERO_FILE,
         b"file with first line 0 read, and written again",
-    );
+    )?;
     tally::print(
+        rt,
         ledger,
         tally::PHASE_EXAMPLES,
         b"run 4 10 0 5 with sources 7 60 2, 3 200, and with source 2147483647 1 2147483646, reported",
-    );
+    )?;
     tally::print(
+        rt,
         ledger,
         tally::PHASE_LISTED,
         b"interval 9, period 9, lines 0 to 5: phase 1 hits 1, 5, 9, 13, 17, 21, phase 4 nothing",
-    );
+    )?;
     tally::print(
+        rt,
         ledger,
         tally::LAST_CELL,
         b"window 4096, lines 0 to 16777216: cell 68719480831 the last hit, one more refused 8",
-    );
-    tally::print(ledger, tally::LONG_TEXTS, b"texts of 4096 and 4097 bytes");
+    )?;
+    tally::print(
+        rt,
+        ledger,
+        tally::LONG_TEXTS,
+        b"texts of 4096 and 4097 bytes",
+    )
 }
 
 // Prints what was counted of refusals with two faults at a time.
-fn print_refusals(ledger: &[u64]) {
+fn print_refusals(rt: &impl Print, ledger: &[u64]) -> io::Result<()> {
     tally::print(
+        rt,
         ledger,
         tally::LINE_ORDER,
         b"run 4 0 7 6 refused 17 by eight calls",
-    );
+    )?;
     tally::print(
+        rt,
         ledger,
         tally::HIGH_ORDER,
         b"run 4 0 16777219 16777218 refused 17 by eight calls",
-    );
+    )?;
     tally::print(
+        rt,
         ledger,
         tally::LAST_LINE,
         b"run 4 0 0 16777217 refused 18 by eight calls",
-    );
+    )?;
     tally::print(
+        rt,
         ledger,
         tally::TEXT_SOURCE,
         b"text with sources 7 60, 0 0, 9 0 refused 4 source 2",
-    );
+    )?;
     tally::print(
+        rt,
         ledger,
         tally::MAP_SOURCE,
         b"map a cell short with a weight, and with a phase, too large: refused 7, 22 source 2",
-    );
+    )?;
     tally::print(
+        rt,
         ledger,
         tally::PHASE_REFUSED,
         b"source 0 1 0 refused 4, 7 0 7 refused 7, 7 1 7 refused 22, 7 60 2 1 refused 11",
-    );
+    )
 }
 
 // Prints what was counted of each call.
-fn print_calls(ledger: &[u64]) {
-    tally::print(ledger, tally::VECTORS, b"step vectors");
-    tally::print(ledger, tally::FIRST_HIT, b"first hits");
-    tally::print(ledger, tally::LISTING, b"listings through random rooms");
+fn print_calls(rt: &impl Print, ledger: &[u64]) -> io::Result<()> {
+    tally::print(rt, ledger, tally::VECTORS, b"step vectors")?;
+    tally::print(rt, ledger, tally::FIRST_HIT, b"first hits")?;
+    tally::print(rt, ledger, tally::LISTING, b"listings through random rooms")?;
     tally::print(
+        rt,
         ledger,
         tally::BLOCK,
         b"first hits of a block, turned into the run's cell",
-    );
-    tally::print(ledger, tally::MADE, b"maps made");
-    tally::print(ledger, tally::ADDED, b"maps added to");
-    tally::print(ledger, tally::SAVING, b"saved maps");
+    )?;
+    tally::print(rt, ledger, tally::MADE, b"maps made")?;
+    tally::print(rt, ledger, tally::ADDED, b"maps added to")?;
+    tally::print(rt, ledger, tally::SAVING, b"saved maps")?;
     tally::print(
+        rt,
         ledger,
         tally::READING,
         b"files read, with up to two bytes changed",
-    );
-    tally::print(ledger, tally::TEXT, b"texts, one in four with its report");
+    )?;
+    tally::print(
+        rt,
+        ledger,
+        tally::TEXT,
+        b"texts, one in four with its report",
+    )
 }
 
 // Prints what was counted of each kind of case.
-fn print_kinds(ledger: &[u64]) {
-    tally::print(ledger, tally::PAIR, b"runs with a pair");
-    tally::print(ledger, tally::SINGLE, b"runs with a single vector");
-    tally::print(ledger, tally::NO_REMAINDER, b"runs with r = 0");
-    tally::print(ledger, tally::SHORT, b"runs with p < I");
-    tally::print(ledger, tally::EQUAL, b"runs with p = I");
-    tally::print(ledger, tally::RUNS_FROM_ZERO, b"runs from line 0");
-    tally::print(ledger, tally::PHASED, b"runs with a phase above 0");
+fn print_kinds(rt: &impl Print, ledger: &[u64]) -> io::Result<()> {
+    tally::print(rt, ledger, tally::PAIR, b"runs with a pair")?;
+    tally::print(rt, ledger, tally::SINGLE, b"runs with a single vector")?;
+    tally::print(rt, ledger, tally::NO_REMAINDER, b"runs with r = 0")?;
+    tally::print(rt, ledger, tally::SHORT, b"runs with p < I")?;
+    tally::print(rt, ledger, tally::EQUAL, b"runs with p = I")?;
+    tally::print(rt, ledger, tally::RUNS_FROM_ZERO, b"runs from line 0")?;
+    tally::print(rt, ledger, tally::PHASED, b"runs with a phase above 0")?;
     tally::print(
+        rt,
         ledger,
         tally::SINGLE_PHASED,
         b"runs with a single vector and a phase that g does not divide",
-    );
+    )?;
     tally::print(
+        rt,
         ledger,
         tally::TWO_LIMITS,
         b"maps, files and texts refused for one of two line limits",
-    );
+    )?;
     tally::print(
+        rt,
         ledger,
         tally::TWO_SOURCES,
         b"maps and texts refused for one of several sources",
-    );
+    )
 }
 
 // Tries the figures, maps of nines, then all random cases, and prints the counts.
-fn main() {
+fn main(rt: HostRuntime) -> io::Result<()> {
     let mut ledger = tally::ledger();
     try_figures(&mut ledger);
     nines::try_nines(&mut ledger);
     try_all(&mut ledger);
-    print_figures(&ledger);
-    print_nines(&ledger);
-    print_refusals(&ledger);
-    print_calls(&ledger);
-    print_kinds(&ledger);
+    print_figures(&rt, &ledger)?;
+    print_nines(&rt, &ledger)?;
+    print_refusals(&rt, &ledger)?;
+    print_calls(&rt, &ledger)?;
+    print_kinds(&rt, &ledger)
 }

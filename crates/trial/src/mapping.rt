@@ -6,7 +6,7 @@ use trying::reference::{Refusal, first_of, when};
 use trying::{draw, numbers, reference, refusals, tally};
 
 // Which of the two calls is made.
-#[derive(Drop)]
+#[derive(Clone, Copy)]
 pub enum MapCall {
     // The plain one.
     Make,

@@ -5,7 +5,7 @@ use trying::reference::{Refusal, first_of, when};
 use trying::{numbers, reference};
 
 // What is asked of a map: the lines of its run by a threshold, and by a guard part of the window with these offsets, both in it.
-#[derive(Drop)]
+#[derive(Clone, Copy)]
 pub struct Asked {
     pub run: Run,
     pub threshold: u8,
