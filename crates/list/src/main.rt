@@ -92,7 +92,7 @@ fn complain(rt: &HostRuntime, words: &[u8]) {
 // Writes the bytes, which are what is printed of the text. How that was read is given for the contract alone.
 fn print(rt: &HostRuntime, reading: Reading, text: &[u8], bytes: &[u8])
     requires whole { Whole reading text.now }
-    requires printed_of { PrintedOf text.now bytes.now }
+    requires printed { PrintedOf text.now bytes.now }
 {
     if rt.write_all(bytes).is_err() {
         complain(rt, b"list: writing the report failed\n");

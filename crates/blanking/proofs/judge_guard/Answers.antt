@@ -22,8 +22,8 @@ half c = to_z_pos w64 {n = c.args.window / 2} (omega (arith, c.ranges.window))
 turned : (n : ℕ) → pos 0 -ℤ pos n ≡ neg_ℤ (pos n)
 turned n = omega (arith, parts, sum (pos 0) (neg_ℤ (pos n)), neg_up (pos n), neg_dn (pos n))
 
-fits-turned : (c : Start) → SFits w64 (neg_ℤ (pos (c.args.window / 2)))
-fits-turned c = let h = pos (c.args.window / 2) in omega (arith, parts, c.ranges.window, neg_up h, neg_dn h)
+fits_turned : (c : Start) → SFits w64 (neg_ℤ (pos (c.args.window / 2)))
+fits_turned c = let h = pos (c.args.window / 2) in omega (arith, parts, c.ranges.window, neg_up h, neg_dn h)
 
 low : (c : Start) → SFits w64 c.args.guard.lowest
 low c = search rules
@@ -33,17 +33,17 @@ high c = search rules
 
 -- the three tests
 left_in : (c : Else-guard-half) → let a = c.args in lt_z a.guard.lowest (neg_ℤ (pos (a.window / 2))) ≡ false
-left_in c = simp (to_z-of_z (low (goal.at.Else-guard-half c).Start), half (goal.at.Else-guard-half c).Start, turned (c.args.window / 2), to_z-of_z (fits-turned (goal.at.Else-guard-half c).Start)) at c.if-guard-half.false
+left_in c = simp (to_z-of_z (low (goal.at.Else-guard-half c).Start), half (goal.at.Else-guard-half c).Start, turned (c.args.window / 2), to_z-of_z (fits_turned (goal.at.Else-guard-half c).Start)) at c.if-guard-half.false
 
 right_in : (c : Else-half-guard) → let a = c.args in le_z (pos (a.window / 2)) a.guard.highest ≡ false
 right_in c = simp (to_z-of_z (high (goal.at.Else-half-guard c).Start), half (goal.at.Else-half-guard c).Start) at c.if-half-guard.false
 
 pub overflow_sub-half : goal.overflow_sub-half
-overflow_sub-half c = simp (half (goal.at.overflow_sub-half c).Start, turned (c.args.window / 2)) (fits-turned (goal.at.overflow_sub-half c).Start)
+overflow_sub-half c = simp (half (goal.at.overflow_sub-half c).Start, turned (c.args.window / 2)) (fits_turned (goal.at.overflow_sub-half c).Start)
 
 pub returns-then-guard-half : goal.returns-then-guard-half
 unfolding guard_tests
-returns-then-guard-half c = refuse_verdict (first (first (broken (simp (to_z-of_z (low (goal.at.returns-then-guard-half c).Start), half (goal.at.returns-then-guard-half c).Start, turned (c.args.window / 2), to_z-of_z (fits-turned (goal.at.returns-then-guard-half c).Start)) at c.if-guard-half.true))))
+returns-then-guard-half c = refuse_verdict (first (first (broken (simp (to_z-of_z (low (goal.at.returns-then-guard-half c).Start), half (goal.at.returns-then-guard-half c).Start, turned (c.args.window / 2), to_z-of_z (fits_turned (goal.at.returns-then-guard-half c).Start)) at c.if-guard-half.true))))
 
 pub returns-then-half-guard : goal.returns-then-half-guard
 unfolding guard_tests

@@ -23,8 +23,8 @@ room_left c =
     kept_fits _ (λ j b. (blanked_inside j b).1) n.stands.next (n.so_far all.0 all.1) (omega arith)
 
 -- and the room is as long as it was
-length-kept : (c : In-loop-stretch) → length c.loop-stretch.room ≡ length c.args.room.now
-length-kept c =
+length_kept : (c : In-loop-stretch) → length c.loop-stretch.room ≡ length c.args.room.now
+length_kept c =
     let a = c.args in
     let all = blanked_stretches a.run a.map.now a.threshold a.guard in
     (c.loop-stretch.invariant.so_far all.0 all.1).same
@@ -41,22 +41,22 @@ loop-stretch-init c =
     }
 
 pub offset_bounds-room-at : goal.offset_bounds-room-at
-offset_bounds-room-at c = record { fits = omega (arith, room_left (goal.at.offset_bounds-room-at c).In-loop-stretch, length-kept (goal.at.offset_bounds-room-at c).In-loop-stretch, room_small (goal.at.offset_bounds-room-at c).Start) }
+offset_bounds-room-at c = record { fits = omega (arith, room_left (goal.at.offset_bounds-room-at c).In-loop-stretch, length_kept (goal.at.offset_bounds-room-at c).In-loop-stretch, room_small (goal.at.offset_bounds-room-at c).Start) }
 
 pub bounds-room-at : goal.bounds-room-at
 bounds-room-at c = omega (arith, room_left (goal.at.bounds-room-at c).In-loop-stretch)
 
 pub overflow_add-room : goal.overflow_add-room
-overflow_add-room c = record { fits = omega (arith, room_left (goal.at.overflow_add-room c).In-loop-stretch, length-kept (goal.at.overflow_add-room c).In-loop-stretch, room_small (goal.at.overflow_add-room c).Start) }
+overflow_add-room c = record { fits = omega (arith, room_left (goal.at.overflow_add-room c).In-loop-stretch, length_kept (goal.at.overflow_add-room c).In-loop-stretch, room_small (goal.at.overflow_add-room c).Start) }
 
 pub offset_bounds-room-at-in-loop-stretch : goal.offset_bounds-room-at-in-loop-stretch
-offset_bounds-room-at-in-loop-stretch c = record { fits = omega (arith, room_left (goal.at.offset_bounds-room-at-in-loop-stretch c).In-loop-stretch, length-kept (goal.at.offset_bounds-room-at-in-loop-stretch c).In-loop-stretch, room_small (goal.at.offset_bounds-room-at-in-loop-stretch c).Start) }
+offset_bounds-room-at-in-loop-stretch c = record { fits = omega (arith, room_left (goal.at.offset_bounds-room-at-in-loop-stretch c).In-loop-stretch, length_kept (goal.at.offset_bounds-room-at-in-loop-stretch c).In-loop-stretch, room_small (goal.at.offset_bounds-room-at-in-loop-stretch c).Start) }
 
 pub bounds-room-at-in-loop-stretch : goal.bounds-room-at-in-loop-stretch
 bounds-room-at-in-loop-stretch c = simp length-set (omega (arith, room_left (goal.at.bounds-room-at-in-loop-stretch c).In-loop-stretch))
 
 pub overflow_add-at : goal.overflow_add-at
-overflow_add-at c = record { fits = omega (arith, room_left (goal.at.overflow_add-at c).In-loop-stretch, length-kept (goal.at.overflow_add-at c).In-loop-stretch, room_small (goal.at.overflow_add-at c).Start) }
+overflow_add-at c = record { fits = omega (arith, room_left (goal.at.overflow_add-at c).In-loop-stretch, length_kept (goal.at.overflow_add-at c).In-loop-stretch, room_small (goal.at.overflow_add-at c).Start) }
 
 pub overflow_add-stretch : goal.overflow_add-stretch
 overflow_add-stretch c = omega (arith, standing_asks c.loop-stretch.invariant.stands (omega arith), c.requires.0.valid.ends)

@@ -10,8 +10,8 @@ use Rattle.hits.proofs.judge.Goals as goal
 use Rattle.hits.proofs.judge.Goals.{In_default, In_default-judge_source}
 
 -- what the verdicts on the run and on the source tell
-run-passes : (c : In_default) → Passes (run_tests c.args.run)
-run-passes c = fine c.judge_run.ensures c.in_default.is
+run_passes : (c : In_default) → Passes (run_tests c.args.run)
+run_passes c = fine c.judge_run.ensures c.in_default.is
 
 source_passes : (c : In_default-judge_source) → Passes (source_tests c.args.source)
 source_passes c = fine c.judge_source.ensures c.in_default-judge_source.is
@@ -22,19 +22,19 @@ returns-in-Refused c = refuse_verdict (first (first (blamed c.judge_run.ensures 
 
 pub returns-in-Refused-judge_source : goal.returns-in-Refused-judge_source
 unfolding first_hit_tests
-returns-in-Refused-judge_source c = refuse_verdict (first (then (run-passes (goal.at.returns-in-Refused-judge_source c).In_default) (blamed c.judge_source.ensures c.in-Refused-judge_source.is)))
+returns-in-Refused-judge_source c = refuse_verdict (first (then (run_passes (goal.at.returns-in-Refused-judge_source c).In_default) (blamed c.judge_source.ensures c.in-Refused-judge_source.is)))
 
 pub cells-all-requires : goal.cells-all-requires
-cells-all-requires c = valid_run (run-passes (goal.at.cells-all-requires c).In_default) (omega (arith, c.well_formed.0))
+cells-all-requires c = valid_run (run_passes (goal.at.cells-all-requires c).In_default) (omega (arith, c.well_formed.0))
 
 pub returns-then-all-start : goal.returns-then-all-start
 unfolding first_hit_tests
 returns-then-all-start c =
     let a = c.args in
-    refuse_verdict (then (both (run-passes (goal.at.returns-then-all-start c).In_default) (source_passes (goal.at.returns-then-all-start c).In_default-judge_source)) (broken (le-leb (cells_of a.run) a.start.0 (omega (arith, c.cells-all.ensures, c.if-all-start.true)))))
+    refuse_verdict (then (both (run_passes (goal.at.returns-then-all-start c).In_default) (source_passes (goal.at.returns-then-all-start c).In_default-judge_source)) (broken (le-leb (cells_of a.run) a.start.0 (omega (arith, c.cells-all.ensures, c.if-all-start.true)))))
 
 pub returns : goal.returns
 unfolding first_hit_tests
 returns c =
     let a = c.args in
-    grant_verdict (both (both (run-passes (goal.at.returns c).In_default) (source_passes (goal.at.returns c).In_default-judge_source)) (sound (lt-leb (cells_of a.run) a.start.0 (omega (arith, c.cells-all.ensures, c.if-all-start.false)))))
+    grant_verdict (both (both (run_passes (goal.at.returns c).In_default) (source_passes (goal.at.returns c).In_default-judge_source)) (sound (lt-leb (cells_of a.run) a.start.0 (omega (arith, c.cells-all.ensures, c.if-all-start.false)))))

@@ -74,5 +74,5 @@ slice_bounds-print-end-2 c = sym (length-take-le _ _ (output_within c.report-out
 pub print-requires-clause-whole : goal.print-requires-clause-whole
 print-requires-clause-whole c = whole (goal.at.print-requires-clause-whole c).In-Text
 
-pub print-requires-clause-printed_of : goal.print-requires-clause-printed_of
-print-requires-clause-printed_of c = output_prints c.report-output.ensures
+pub print-requires-clause-printed : goal.print-requires-clause-printed
+print-requires-clause-printed c = output_prints c.report-output.ensures

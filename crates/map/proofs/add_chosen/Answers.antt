@@ -66,7 +66,7 @@ loop-k-init c =
       within = omega arith;
       valid = valid_entries ceiling 1 _ (record { is = p.sound });
       as_long = refl;
-      small = λ i. omega (arith, c.slice_known-1.given i);
+      small = λ i. omega (arith, c.type_inv.map i);
       same = refl;
     }
 

@@ -11,7 +11,7 @@ use Rattle.map.proofs.add_hits.Goals.{After-begin-at, At-loop-cell}
 
 -- no cell is above the ceiling at first, and the walk starts at the first hit
 starts : (c : After-begin-at) → Walked c.args.run c.args.source c.args.weight c.args.map.now c.args.map.now c.begin-at.result
-starts c = walk_starts _ (λ i. omega (arith, c.slice_known-1.given i)) c.begin-at.ensures
+starts c = walk_starts _ (λ i. omega (arith, c.type_inv.map i)) c.begin-at.ensures
 
 -- what the loop walks over
 over : (c : At-loop-cell) → Crosses c.args.run c.args.source c.plan-walk.result c.begin-at.result c.args.map.now

@@ -6,7 +6,7 @@ use Rattle.map.proofs.Rows.{line_starts, line_next}
 use Rattle.map.proofs.add_line.Goals as goal
 
 pub loop-d-init : goal.loop-d-init
-loop-d-init c = line_starts _ c.requires.0 (λ i. omega (arith, c.slice_known-1.given i))
+loop-d-init c = line_starts _ c.requires.0 (λ i. omega (arith, c.type_inv.line i))
 
 pub overflow_add-d : goal.overflow_add-d
 overflow_add-d c = let l = c.loop-d.invariant.done.as_long in omega arith

@@ -20,7 +20,7 @@ loop-base-init c =
     let v = c.requires.0 in
     let source = c.requires.1 in
     let low = mod-lt (c.args.run.interval * c.args.run.first + origin c.args.run c.args.source) source.ticks in
-    rows_start _ _ (lines_of c.args.run) c.requires.2 (omega arith) v.wide source.fits (mod-lt _ source.ticks) (omega (arith, c.distance-start.ensures)) (λ i. omega (arith, c.slice_known-1.given i))
+    rows_start _ _ (lines_of c.args.run) c.requires.2 (omega arith) v.wide source.fits (mod-lt _ source.ticks) (omega (arith, c.distance-start.ensures)) (λ i. omega (arith, c.type_inv.map i))
 
 pub overflow_add-base : goal.overflow_add-base
 overflow_add-base c = let room = line_left c.loop-base.invariant c.loop-base-test.true in let l = c.loop-base.invariant.done.as_long in omega arith

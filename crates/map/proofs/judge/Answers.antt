@@ -13,16 +13,16 @@ use Rattle.map.proofs.judge.Goals as goal
 use Rattle.map.proofs.judge.Goals.{After-judge_lists, In_default-judge_lists}
 
 -- the run has passed
-run-passes : (c : After-judge_lists) → Passes (run_tests c.args.run)
-run-passes c = fine c.judge_run.ensures c.in_default.is
+run_passes : (c : After-judge_lists) → Passes (run_tests c.args.run)
+run_passes c = fine c.judge_run.ensures c.in_default.is
 
 -- the lists have passed too
-lists-pass : (c : In_default-judge_lists) → let a = c.args in Passes (run_tests a.run and_then source_lists_tests ceiling a.periods.now a.weights.now a.phases.now)
-lists-pass c =
-    both (run-passes (goal.at.In_default-judge_lists c).After-judge_lists) (fine c.judge_lists.ensures c.in_default-judge_lists.is)
+lists_pass : (c : In_default-judge_lists) → let a = c.args in Passes (run_tests a.run and_then source_lists_tests ceiling a.periods.now a.weights.now a.phases.now)
+lists_pass c =
+    both (run_passes (goal.at.In_default-judge_lists c).After-judge_lists) (fine c.judge_lists.ensures c.in_default-judge_lists.is)
 
-run-valid : (c : In_default-judge_lists) → ValidRun c.args.run
-run-valid c = valid_run (passes_first (lists-pass c)) (omega (arith, c.well_formed.0))
+run_valid : (c : In_default-judge_lists) → ValidRun c.args.run
+run_valid c = valid_run (passes_first (lists_pass c)) (omega (arith, c.well_formed.0))
 
 pub returns-in-Refused : goal.returns-in-Refused
 unfolding map_tests
@@ -30,15 +30,15 @@ returns-in-Refused c = refuse_verdict (first (first (blamed c.judge_run.ensures 
 
 pub returns-in-Refused-judge_lists : goal.returns-in-Refused-judge_lists
 unfolding map_tests
-returns-in-Refused-judge_lists c = refuse_verdict (first (then (run-passes (goal.at.returns-in-Refused-judge_lists c).After-judge_lists) (blamed c.judge_lists.ensures c.in-Refused-judge_lists.is)))
+returns-in-Refused-judge_lists c = refuse_verdict (first (then (run_passes (goal.at.returns-in-Refused-judge_lists c).After-judge_lists) (blamed c.judge_lists.ensures c.in-Refused-judge_lists.is)))
 
 pub cells-requires : goal.cells-requires
-cells-requires c = run-valid (goal.at.cells-requires c).In_default-judge_lists
+cells-requires c = run_valid (goal.at.cells-requires c).In_default-judge_lists
 
 pub returns-then-map-cells : goal.returns-then-map-cells
 unfolding map_tests
-returns-then-map-cells c = refuse_verdict (then (lists-pass (goal.at.returns-then-map-cells c).In_default-judge_lists) (broken (ap not (ne_eqb _ _ (λ e. c.if-map-cells.true (e ∙ sym c.cells.ensures))))))
+returns-then-map-cells c = refuse_verdict (then (lists_pass (goal.at.returns-then-map-cells c).In_default-judge_lists) (broken (ap not (ne_eqb _ _ (λ e. c.if-map-cells.true (e ∙ sym c.cells.ensures))))))
 
 pub returns : goal.returns
 unfolding map_tests
-returns c = grant_verdict (both (lists-pass (goal.at.returns c).In_default-judge_lists) (sound (ap not (eq-eqb _ _ (c.if-map-cells.false ∙ c.cells.ensures)))))
+returns c = grant_verdict (both (lists_pass (goal.at.returns c).In_default-judge_lists) (sound (ap not (eq-eqb _ _ (c.if-map-cells.false ∙ c.cells.ensures)))))

@@ -20,18 +20,18 @@ starts : (c : After-shared_slice_known-3-1)
     Writing a.room.now 0 (whole_report a.run es) (whole_report a.run es) 0 a.room.now
 starts c = writing_starts _ _ _ c.requires.fits
 
-run-written : (c : After-write_run-after_run)
+run_written : (c : After-write_run-after_run)
     → let a = c.args in
     let es = entries_of a.periods.now a.weights.now a.phases.now in
     Writing a.room.now 0 (whole_report a.run es) (src_report a.run 1 es ++ (cells_report a.run es)) c.write_run-after_run.result c.write_run-after_run.new.room
 unfolding whole_report
-run-written c = writing_more (starts (goal.at.After-write_run-after_run c).After-shared_slice_known-3-1) refl c.write_run-after_run.ensures
+run_written c = writing_more (starts (goal.at.After-write_run-after_run c).After-shared_slice_known-3-1) refl c.write_run-after_run.ensures
 
-sources-written : (c : After-write_sources-after_sources)
+sources_written : (c : After-write_sources-after_sources)
     → let a = c.args in
     let es = entries_of a.periods.now a.weights.now a.phases.now in
     Writing a.room.now 0 (whole_report a.run es) (cells_report a.run es) c.write_sources-after_sources.result c.write_sources-after_sources.new.room
-sources-written c = writing_more (run-written (goal.at.After-write_sources-after_sources c).After-write_run-after_run) refl c.write_sources-after_sources.ensures
+sources_written c = writing_more (run_written (goal.at.After-write_sources-after_sources c).After-write_run-after_run) refl c.write_sources-after_sources.ensures
 
 pub write_run-after_run-requires : goal.write_run-after_run-requires
 unfolding whole_report
@@ -44,7 +44,7 @@ write_run-after_run-requires c =
     }
 
 pub write_sources-after_sources-requires : goal.write_sources-after_sources-requires
-write_sources-after_sources-requires c = record { valid = c.requires.valid; fits = piece_fits (run-written (goal.at.write_sources-after_sources-requires c).After-write_run-after_run) (src_report _ _ _) _ refl }
+write_sources-after_sources-requires c = record { valid = c.requires.valid; fits = piece_fits (run_written (goal.at.write_sources-after_sources-requires c).After-write_run-after_run) (src_report _ _ _) _ refl }
 
 pub write_map_of-requires : goal.write_map_of-requires
 write_map_of-requires c =
@@ -54,8 +54,8 @@ write_map_of-requires c =
     record {
       valid = c.requires.valid;
       whole = omega (arith, part, c.cells-cells.ensures);
-      fits = last_fits (sources-written (goal.at.write_map_of-requires c).After-write_sources-after_sources) (cells_report _ _) refl;
+      fits = last_fits (sources_written (goal.at.write_map_of-requires c).After-write_sources-after_sources) (cells_report _ _) refl;
     }
 
 pub returns : goal.returns
-returns c = writing_last (sources-written (goal.at.returns c).After-write_sources-after_sources) c.write_map_of.ensures.written
+returns c = writing_last (sources_written (goal.at.returns c).After-write_sources-after_sources) c.write_map_of.ensures.written

@@ -9,16 +9,16 @@ use Rattle.report.proofs.write_run.Goals as goal
 use Rattle.report.proofs.write_run.Goals.{After-cells}
 
 -- the line that is written
-line-is : (c : After-cells)
+line_is : (c : After-cells)
     → let run = c.args.run in
     line run_word (run_numbers run ++ (c.cells.result ∷ [])) ≡ run_report run
 unfolding run_report
-line-is c =
+line_is c =
     let run = c.args.run in
     ap (λ n. line run_word (run_numbers run ++ (n ∷ []))) c.cells.ensures
 
 pub write_line-requires : goal.write_line-requires
-write_line-requires c = fits_same c.args.at _ _ (line-is (goal.at.write_line-requires c).After-cells) c.requires.fits
+write_line-requires c = fits_same c.args.at _ _ (line_is (goal.at.write_line-requires c).After-cells) c.requires.fits
 
 pub returns : goal.returns
-returns c = written_same (line-is (goal.at.returns c).After-cells) c.write_line.ensures
+returns c = written_same (line_is (goal.at.returns c).After-cells) c.write_line.ensures

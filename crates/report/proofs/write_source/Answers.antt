@@ -9,16 +9,16 @@ use Rattle.report.proofs.write_source.Goals as goal
 use Rattle.report.proofs.write_source.Goals.{After-count_hits}
 
 -- the line that is written
-line-is : (c : After-count_hits)
+line_is : (c : After-count_hits)
     → let a = c.args in
     line src_word (a.place ∷ a.source.period ∷ a.weight ∷ a.source.phase ∷ c.count_hits.result ∷ []) ≡ entry_report a.run a.place (record { source = a.source; weight = a.weight })
 unfolding entry_report
-line-is c =
+line_is c =
     let a = c.args in
     ap (λ n. line src_word (a.place ∷ a.source.period ∷ a.weight ∷ a.source.phase ∷ n ∷ [])) c.count_hits.ensures
 
 pub write_line-requires : goal.write_line-requires
-write_line-requires c = fits_same c.args.at _ _ (line-is (goal.at.write_line-requires c).After-count_hits) c.requires.fits
+write_line-requires c = fits_same c.args.at _ _ (line_is (goal.at.write_line-requires c).After-count_hits) c.requires.fits
 
 pub returns : goal.returns
-returns c = written_same (line-is (goal.at.returns c).After-count_hits) c.write_line.ensures
+returns c = written_same (line_is (goal.at.returns c).After-count_hits) c.write_line.ensures

@@ -42,28 +42,28 @@ unfolding file_block_at
 headed c = both (some (goal.at.In_default c).Else-file-eq0) (fine c.judge_heading.ensures c.in_default.is)
 
 -- what was found of the run
-run-judged : (c : After-judge_run) → c.judge_run.result ≡ verdict (complaint (run_tests (run_of c.args.file.now)))
-run-judged c = rw c.run_of-run.ensures at c.judge_run.ensures
+run_judged : (c : After-judge_run) → c.judge_run.result ≡ verdict (complaint (run_tests (run_of c.args.file.now)))
+run_judged c = rw c.run_of-run.ensures at c.judge_run.ensures
 
 limited : (c : In_default-judge_run) → Passes (to_run c.args.file.now)
-limited c = both (headed (goal.at.In_default-judge_run c).In_default) (fine (run-judged (goal.at.In_default-judge_run c).After-judge_run) c.in_default-judge_run.is)
+limited c = both (headed (goal.at.In_default-judge_run c).In_default) (fine (run_judged (goal.at.In_default-judge_run c).After-judge_run) c.in_default-judge_run.is)
 
 valid : (c : In_default-judge_run) → ValidRun c.run_of-run.result
 valid c = valid_run (fine c.judge_run.ensures c.in_default-judge_run.is) (omega (arith, c.run_of-run.type_inv))
 
 -- how long the file is to be, and how many bytes of cells it is to hold
-size-told : (c : After-bytes_for-size) → c.bytes_for-size.result ≡ bytes_for (run_of c.args.file.now)
-size-told c = c.bytes_for-size.ensures ∙ ap bytes_for c.run_of-run.ensures
+size_told : (c : After-bytes_for-size) → c.bytes_for-size.result ≡ bytes_for (run_of c.args.file.now)
+size_told c = c.bytes_for-size.ensures ∙ ap bytes_for c.run_of-run.ensures
 
-length-told : (c : After-file_length) → c.file_length.result ≡ file_length (bytes_for (run_of c.args.file.now))
-length-told c = c.file_length.ensures ∙ ap file_length (size-told (goal.at.After-file_length c).After-bytes_for-size)
+length_told : (c : After-file_length) → c.file_length.result ≡ file_length (bytes_for (run_of c.args.file.now))
+length_told c = c.file_length.ensures ∙ ap file_length (size_told (goal.at.After-file_length c).After-bytes_for-size)
 
 counted : (c : Else-file_length-file) → Passes (to_count c.args.file.now)
-counted c = both (limited (goal.at.Else-file_length-file c).In_default-judge_run) (sound (agrees refl (length-told (goal.at.Else-file_length-file c).After-file_length) (sym c.if-file_length-file.false)))
+counted c = both (limited (goal.at.Else-file_length-file c).In_default-judge_run) (sound (agrees refl (length_told (goal.at.Else-file_length-file c).After-file_length) (sym c.if-file_length-file.false)))
 
 -- what was found of the blocks after block 0
-cells-judged : (c : After-judge_cells) → let file = c.args.file.now in c.judge_cells.result ≡ verdict (complaint (later_file_blocks_tests (bytes_for (run_of file)) file (file_blocks_for (bytes_for (run_of file)))))
-cells-judged c = rw (size-told (goal.at.After-judge_cells c).After-bytes_for-size) at c.judge_cells.ensures
+cells_judged : (c : After-judge_cells) → let file = c.args.file.now in c.judge_cells.result ≡ verdict (complaint (later_file_blocks_tests (bytes_for (run_of file)) file (file_blocks_for (bytes_for (run_of file)))))
+cells_judged c = rw (size_told (goal.at.After-judge_cells c).After-bytes_for-size) at c.judge_cells.ensures
 
 pub returns-then-file-ne0 : goal.returns-then-file-ne0
 unfolding file_tests
@@ -79,7 +79,7 @@ returns-in-Refused c = refuse_reply _ (first (first (first (then (some (goal.at.
 
 pub returns-in-Refused-judge_run : goal.returns-in-Refused-judge_run
 unfolding file_tests
-returns-in-Refused-judge_run c = refuse_reply _ (first (first (then (headed (goal.at.returns-in-Refused-judge_run c).In_default) (blamed (run-judged (goal.at.returns-in-Refused-judge_run c).After-judge_run) c.in-Refused-judge_run.is))))
+returns-in-Refused-judge_run c = refuse_reply _ (first (first (then (headed (goal.at.returns-in-Refused-judge_run c).In_default) (blamed (run_judged (goal.at.returns-in-Refused-judge_run c).After-judge_run) c.in-Refused-judge_run.is))))
 
 pub bytes_for-size-requires : goal.bytes_for-size-requires
 bytes_for-size-requires c = valid (goal.at.bytes_for-size-requires c).In_default-judge_run
@@ -89,7 +89,7 @@ file_length-requires c = let few = cells_few (valid (goal.at.file_length-require
 
 pub returns-then-file_length-file : goal.returns-then-file_length-file
 unfolding file_tests
-returns-then-file_length-file c = refuse_reply _ (first (then (limited (goal.at.returns-then-file_length-file c).In_default-judge_run) (broken (differs refl (length-told (goal.at.returns-then-file_length-file c).After-file_length) (λ e. c.if-file_length-file.true (sym e))))))
+returns-then-file_length-file c = refuse_reply _ (first (then (limited (goal.at.returns-then-file_length-file c).In_default-judge_run) (broken (differs refl (length_told (goal.at.returns-then-file_length-file c).After-file_length) (λ e. c.if-file_length-file.true (sym e))))))
 
 pub judge_cells-requires : goal.judge_cells-requires
 judge_cells-requires c =
@@ -99,8 +99,8 @@ judge_cells-requires c =
 
 pub returns-in-Refused-judge_cells : goal.returns-in-Refused-judge_cells
 unfolding file_tests
-returns-in-Refused-judge_cells c = refuse_reply _ (then (counted (goal.at.returns-in-Refused-judge_cells c).Else-file_length-file) (blamed (cells-judged (goal.at.returns-in-Refused-judge_cells c).After-judge_cells) c.in-Refused-judge_cells.is))
+returns-in-Refused-judge_cells c = refuse_reply _ (then (counted (goal.at.returns-in-Refused-judge_cells c).Else-file_length-file) (blamed (cells_judged (goal.at.returns-in-Refused-judge_cells c).After-judge_cells) c.in-Refused-judge_cells.is))
 
 pub returns : goal.returns
 unfolding file_tests
-returns c = ap answered c.run_of-run.ensures ∙ grant_reply _ (both (counted (goal.at.returns c).Else-file_length-file) (fine (cells-judged (goal.at.returns c).After-judge_cells) c.in_default-judge_cells.is))
+returns c = ap answered c.run_of-run.ensures ∙ grant_reply _ (both (counted (goal.at.returns c).Else-file_length-file) (fine (cells_judged (goal.at.returns c).After-judge_cells) c.in_default-judge_cells.is))

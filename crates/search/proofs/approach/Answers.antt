@@ -19,16 +19,16 @@ far : (c : Else-at-m) → let s = c.args in nat_abs s.last.offset ≤ s.at.dista
 far c = rw (by (goal.at.Else-at-m c).After-size-m) at c.if-at-m.false
 
 -- how far the last vector is turned
-turns-left : (c : After-turns_past-turns) → let s = c.args in Turned s.before s.last c.turns_past-turns.result × (c.turns_past-turns.result * nat_abs s.last.offset ≤ s.at.distance)
-turns-left c =
+turns_left : (c : After-turns_past-turns) → let s = c.args in Turned s.before s.last c.turns_past-turns.result × (c.turns_past-turns.result * nat_abs s.last.offset ≤ s.at.distance)
+turns_left c =
     left_turns c.requires (far (goal.at.After-turns_past-turns c).Else-at-m) (rw (c.larger.ensures, by (goal.at.After-turns_past-turns c).After-size-m) at c.turns_past-turns.ensures)
 
 from : (c : After-size-n) → c.size-n.result ≡ nat_abs c.args.before.offset
 from c = c.size-n.ensures ∙ ap nat_abs (to_z-of_z (held_before c.requires.division))
 
 -- how far the last vector is turned
-turns-right : (c : After-turns_past-turns-2) → let s = c.args in Turned s.before s.last c.turns_past-turns-2.result × (nat_abs s.before.offset ≤ s.at.distance + c.turns_past-turns-2.result * nat_abs s.last.offset)
-turns-right c =
+turns_right : (c : After-turns_past-turns-2) → let s = c.args in Turned s.before s.last c.turns_past-turns-2.result × (nat_abs s.before.offset ≤ s.at.distance + c.turns_past-turns-2.result * nat_abs s.last.offset)
+turns_right c =
     right_turns c.requires (far (goal.at.After-turns_past-turns-2 c).Else-at-m) (rw (by (goal.at.After-turns_past-turns-2 c).After-size-m, from (goal.at.After-turns_past-turns-2 c).After-size-n) at c.turns_past-turns-2.ensures)
 
 pub returns-then-at-m : goal.returns-then-at-m
@@ -50,17 +50,17 @@ turns_past-turns-requires c =
     (rw m h.some, omega (arith, h.below))
 
 pub overflow_mul-result : goal.overflow_mul-result
-overflow_mul-result c = let h = turns-left (goal.at.overflow_mul-result c).After-turns_past-turns in rw (by (goal.at.overflow_mul-result c).After-size-m) (record { fits = omega arith })
+overflow_mul-result c = let h = turns_left (goal.at.overflow_mul-result c).After-turns_past-turns in rw (by (goal.at.overflow_mul-result c).After-size-m) (record { fits = omega arith })
 
 pub overflow_sub-result : goal.overflow_sub-result
-overflow_sub-result c = rw (by (goal.at.overflow_sub-result c).After-size-m) (turns-left (goal.at.overflow_sub-result c).After-turns_past-turns).1
+overflow_sub-result c = rw (by (goal.at.overflow_sub-result c).After-size-m) (turns_left (goal.at.overflow_sub-result c).After-turns_past-turns).1
 
 pub overflow_mul-result-then-last-lt0 : goal.overflow_mul-result-then-last-lt0
-overflow_mul-result-then-last-lt0 c = let h = turns-left (goal.at.overflow_mul-result-then-last-lt0 c).After-turns_past-turns in record { fits = omega arith }
+overflow_mul-result-then-last-lt0 c = let h = turns_left (goal.at.overflow_mul-result-then-last-lt0 c).After-turns_past-turns in record { fits = omega arith }
 
 pub overflow_add-result : goal.overflow_add-result
 overflow_add-result c =
-    let h = turns-left (goal.at.overflow_add-result c).After-turns_past-turns in
+    let h = turns_left (goal.at.overflow_add-result c).After-turns_past-turns in
     let l = c.requires.low in
     record { fits = omega arith }
 
@@ -87,26 +87,26 @@ turns_past-turns-requires-2 c =
     rw (by (goal.at.turns_past-turns-requires-2 c).After-size-m, from (goal.at.turns_past-turns-requires-2 c).After-size-n) (h.some, omega arith)
 
 pub overflow_mul-result-2 : goal.overflow_mul-result-2
-overflow_mul-result-2 c = let h = turns-right (goal.at.overflow_mul-result-2 c).After-turns_past-turns-2 in rw (by (goal.at.overflow_mul-result-2 c).After-size-m) (record { fits = omega arith })
+overflow_mul-result-2 c = let h = turns_right (goal.at.overflow_mul-result-2 c).After-turns_past-turns-2 in rw (by (goal.at.overflow_mul-result-2 c).After-size-m) (record { fits = omega arith })
 
 pub overflow_add-result-2 : goal.overflow_add-result-2
 overflow_add-result-2 c =
-    let h = turns-right (goal.at.overflow_add-result-2 c).After-turns_past-turns-2 in
+    let h = turns_right (goal.at.overflow_add-result-2 c).After-turns_past-turns-2 in
     let b = c.requires.below in
     rw (by (goal.at.overflow_add-result-2 c).After-size-m) (record { fits = omega arith })
 
 pub overflow_sub-result-2 : goal.overflow_sub-result-2
-overflow_sub-result-2 c = rw (by (goal.at.overflow_sub-result-2 c).After-size-m, from (goal.at.overflow_sub-result-2 c).After-size-n) (turns-right (goal.at.overflow_sub-result-2 c).After-turns_past-turns-2).1
+overflow_sub-result-2 c = rw (by (goal.at.overflow_sub-result-2 c).After-size-m, from (goal.at.overflow_sub-result-2 c).After-size-n) (turns_right (goal.at.overflow_sub-result-2 c).After-turns_past-turns-2).1
 
 pub overflow_mul-result-3 : goal.overflow_mul-result-3
-overflow_mul-result-3 c = let h = turns-right (goal.at.overflow_mul-result-3 c).After-turns_past-turns-2 in record { fits = omega arith }
+overflow_mul-result-3 c = let h = turns_right (goal.at.overflow_mul-result-3 c).After-turns_past-turns-2 in record { fits = omega arith }
 
 pub overflow_add-result-3 : goal.overflow_add-result-3
-overflow_add-result-3 c = let h = turns-right (goal.at.overflow_add-result-3 c).After-turns_past-turns-2 in record { fits = omega arith }
+overflow_add-result-3 c = let h = turns_right (goal.at.overflow_add-result-3 c).After-turns_past-turns-2 in record { fits = omega arith }
 
 pub overflow_add-result-4 : goal.overflow_add-result-4
 overflow_add-result-4 c =
-    let h = turns-right (goal.at.overflow_add-result-4 c).After-turns_past-turns-2 in
+    let h = turns_right (goal.at.overflow_add-result-4 c).After-turns_past-turns-2 in
     let l = c.requires.low in
     record { fits = omega arith }
 

@@ -10,8 +10,8 @@ use Rattle.search.proofs.find_hit.Goals as goal
 use Rattle.search.proofs.find_hit.Goals.{Start, Then-to-window}
 
 -- the start's own line
-line-in : (c : Start) → let a = c.args in a.run.first + a.start.0 / a.run.window ≤ a.run.last
-line-in c = own_line c.requires.0 c.requires.2
+line_in : (c : Start) → let a = c.args in a.run.first + a.start.0 / a.run.window ≤ a.run.last
+line_in c = own_line c.requires.0 c.requires.2
 
 abbrev own : (c : Start) → ℕ
 own c = let a = c.args in a.run.first + a.start.0 / a.run.window
@@ -22,10 +22,10 @@ found c =
     rest_found c.requires.0 c.requires.2 c.requires.1 c.distance-here.ensures c.first_right-to.ensures c.if-to-window.true
 
 pub overflow_add-line : goal.overflow_add-line
-overflow_add-line c = let l = line-in (goal.at.overflow_add-line c).Start in record { fits = omega arith }
+overflow_add-line c = let l = line_in (goal.at.overflow_add-line c).Start in record { fits = omega arith }
 
 pub distance-here-requires : goal.distance-here-requires
-distance-here-requires c = let l = line-in (goal.at.distance-here-requires c).Start in (c.requires.0, c.requires.1, omega (arith, c.requires.0.ends))
+distance-here-requires c = let l = line_in (goal.at.distance-here-requires c).Start in (c.requires.0, c.requires.1, omega (arith, c.requires.0.ends))
 
 pub first_right-to-requires : goal.first_right-to-requires
 first_right-to-requires c =
@@ -46,11 +46,11 @@ pub distance_after-requires : goal.distance_after-requires
 distance_after-requires c = (c.requires.1, distance_low c.args.run c.requires.1 (own (goal.at.distance_after-requires c).Start) c.distance-here.ensures)
 
 pub overflow_add-after : goal.overflow_add-after
-overflow_add-after c = let l = line-in (goal.at.overflow_add-after c).Start in record { fits = omega arith }
+overflow_add-after c = let l = line_in (goal.at.overflow_add-after c).Start in record { fits = omega arith }
 
 pub find_from-requires : goal.find_from-requires
 find_from-requires c =
-    let l = line-in (goal.at.find_from-requires c).Start in
+    let l = line_in (goal.at.find_from-requires c).Start in
     (c.requires.0, c.requires.1, record { is = c.distance_after.ensures ∙ distance_next c.args.run c.requires.1 (own (goal.at.find_from-requires c).Start) c.distance-here.ensures; begun = omega arith; short = omega arith })
 
 pub returns : goal.returns

@@ -18,18 +18,18 @@ lengths c =
     ∙ sym (verdict_then (length_tests _ _) (length_tests _ _))
 
 -- they are in order
-lengths-pass : (c : In_default)
+lengths_pass : (c : In_default)
     → let a = c.args in
     Passes (length_tests a.periods.now a.weights.now and_then length_tests a.periods.now a.phases.now)
-lengths-pass c = fine (lengths (goal.at.In_default c).After-first_of) c.in_default.is
+lengths_pass c = fine (lengths (goal.at.In_default c).After-first_of) c.in_default.is
 
 pub returns-in-Refused : goal.returns-in-Refused
 unfolding source_lists_tests
 returns-in-Refused c = refuse_verdict (first (blamed (lengths (goal.at.returns-in-Refused c).After-first_of) c.in-Refused.is))
 
 pub judge_entries-requires : goal.judge_entries-requires
-judge_entries-requires c = valid_lengths _ _ _ (lengths-pass (goal.at.judge_entries-requires c).In_default)
+judge_entries-requires c = valid_lengths _ _ _ (lengths_pass (goal.at.judge_entries-requires c).In_default)
 
 pub returns : goal.returns
 unfolding source_lists_tests
-returns c = c.judge_entries.ensures ∙ verdict_passed _ (lengths-pass (goal.at.returns c).In_default)
+returns c = c.judge_entries.ensures ∙ verdict_passed _ (lengths_pass (goal.at.returns c).In_default)

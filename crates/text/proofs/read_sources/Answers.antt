@@ -9,10 +9,10 @@ use Rattle.text.proofs.read_sources.Goals as goal
 use Rattle.text.proofs.read_sources.Goals.{In-Next}
 
 -- the line that was read in this turn
-source-read : (c : In-Next)
+source_read : (c : In-Next)
     → SourceStored c.args.text.now c.loop-next.next c.loop-next.periods c.loop-next.weights c.loop-next.phases c.loop-next.k c.read_source-source.new.periods c.read_source-source.new.weights c.read_source-source.new.phases
     c.in-Next.end
-source-read c = subst (SourceAt _ _ _ _ _ _ _ _ _) c.in-Next.is c.read_source-source.ensures
+source_read c = subst (SourceAt _ _ _ _ _ _ _ _ _) c.in-Next.is c.read_source-source.ensures
 
 pub loop-next-init : goal.loop-next-init
 loop-next-init c = listing_none _ _ _ _ _
@@ -32,10 +32,10 @@ returns-in_default c =
     (λ r. (r.0, listing_fails c.loop-next.invariant (omega arith) r.1, refl))
 
 pub loop-next-smaller : goal.loop-next-smaller
-loop-next-smaller c = omega (arith, line_ends (source-read (goal.at.loop-next-smaller c).In-Next).is)
+loop-next-smaller c = omega (arith, line_ends (source_read (goal.at.loop-next-smaller c).In-Next).is)
 
 pub loop-next-preserved : goal.loop-next-preserved
-loop-next-preserved c = listing_more c.loop-next.invariant (source-read (goal.at.loop-next-preserved c).In-Next)
+loop-next-preserved c = listing_more c.loop-next.invariant (source_read (goal.at.loop-next-preserved c).In-Next)
 
 pub shape_of-periods : goal.shape_of-periods
 shape_of-periods c = c.loop-next.invariant.periods_long
