@@ -1,4 +1,4 @@
--- What the two steps of the list program's reading are held to.
+-- What the steps of the list program's reading are held to.
 use Rattle.std.specs.Prelude.{ℕ, ◌≤◌, ◌<◌, ◌≡◌, ℤ, pos, negsuc, Result, Ok, Err}
 use Rattle.std.specs.Counts.{clamp_len}
 use Rattle.list.specs.declared.Reading.{Reading}
