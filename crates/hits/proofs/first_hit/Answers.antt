@@ -31,4 +31,4 @@ returns-then-cell-all c = ap answered (first_is c.find_hit-cell.ensures (rw c.ce
 
 pub returns : goal.returns
 unfolding FirstHitPromise
-returns c = ap answered (first_isn't c.find_hit-cell.ensures (rw c.cells-all.ensures at c.if-cell-all.false)) ∙ grant_reply _ (passes (goal.at.returns c).In_default)
+returns c = ap answered (first_isn't c.find_hit-cell.ensures (omega (arith, c.cells-all.ensures))) ∙ grant_reply _ (passes (goal.at.returns c).In_default)

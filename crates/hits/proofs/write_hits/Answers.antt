@@ -187,4 +187,4 @@ pub shape_of-room : goal.shape_of-room
 shape_of-room c = (ended (goal.at.shape_of-room c).Left-lines).kept.same
 
 pub returns : goal.returns
-returns c = let f = fixed (goal.at.returns c).After-line_hit_of-at in says_done (ended (goal.at.returns c).Left-lines) (omega (arith, c.if-next-all.false, f.all_is))
+returns c = let f = fixed (goal.at.returns c).After-line_hit_of-at in says_done (ended (goal.at.returns c).Left-lines) (omega (arith, f.all_is))
