@@ -28,4 +28,6 @@ returns-then-last-lt0 c = failed _ _ (simp (same c.args.reading.last (omega arit
 
 pub returns : goal.returns
 unfolding input_of
-returns c = whole _ _ (simp (same c.args.reading.last (omega arith)) at c.if-last-lt0.false)
+returns c =
+    let test : lt_z (to_z w64 (of_z w64 c.args.reading.last)) (pos 0) ≡ false = assumption in
+    whole _ _ (simp (same c.args.reading.last (omega arith)) at test)
