@@ -5,3 +5,4 @@
 // specs/ has the few words that the demands add to document 01's; proofs/ has a file for each demand, or for each part of
 // one, one on line 0, one on phases, one on maps that start clean, one on the blanking list, one on texts and reports, two on all ten
 // operations (no second reply fits, an outcome fits every input), and what these share.
+#![tactic(auto)]
