@@ -19,7 +19,7 @@ run_passes c = fine c.judge_run.ensures c.in_default.is
 -- every test but the last
 passes : (c : In_default-judge_guard) → let a = c.args in Passes (run_tests a.run and_then Threshold when eqb a.threshold 0 and_then guard_tests a.run.window a.guard)
 passes c =
-    both (both (run_passes (goal.at.In_default-judge_guard c).In_default) (sound (ne_eqb _ _ c.if-threshold-eq0.false))) (fine c.judge_guard.ensures c.in_default-judge_guard.is)
+    both (both (run_passes (goal.at.In_default-judge_guard c).In_default) (sound (ne_eqb _ _ assumption))) (fine c.judge_guard.ensures c.in_default-judge_guard.is)
 
 pub returns-in-Refused : goal.returns-in-Refused
 unfolding asked_tests
@@ -31,7 +31,7 @@ returns-then-threshold-eq0 c = refuse_verdict (first (first (then (run_passes (g
 
 pub returns-in-Refused-judge_guard : goal.returns-in-Refused-judge_guard
 unfolding asked_tests
-returns-in-Refused-judge_guard c = refuse_verdict (first (then (both (run_passes (goal.at.returns-in-Refused-judge_guard c).In_default) (sound (ne_eqb _ _ c.if-threshold-eq0.false))) (blamed c.judge_guard.ensures c.in-Refused-judge_guard.is)))
+returns-in-Refused-judge_guard c = refuse_verdict (first (then (both (run_passes (goal.at.returns-in-Refused-judge_guard c).In_default) (sound (ne_eqb _ _ assumption))) (blamed c.judge_guard.ensures c.in-Refused-judge_guard.is)))
 
 pub cells-cells-requires : goal.cells-cells-requires
 cells-cells-requires c = valid_run (run_passes (goal.at.cells-cells-requires c).In_default) (omega (arith, c.well_formed.0))

@@ -1,5 +1,5 @@
 -- `saved::judge_heading` meets its contract: each return is the first test that fails, or none. Assumes nothing.
-use mathlib.Core.Path.{refl, sym, ap, ◌∙◌}
+use mathlib.Core.Path.{◌≡◌, refl, sym, ap, ◌∙◌}
 use mathlib.Core.Bool.{not}
 use lib.Dec.{eqb}
 use lib.ListN.{get_or}
@@ -10,14 +10,14 @@ use Rattle.fileblocks.specs.FileBlock.{file_block_tests}
 use Rattle.saved.specs.File.{heading_tests}
 use Rattle.scope.proofs.Differs.{differs, agrees}
 use Rattle.saved.proofs.judge_heading.Goals as goal
-use Rattle.saved.proofs.judge_heading.Goals.{Else-block-ne1, In_default}
+use Rattle.saved.proofs.judge_heading.Goals.{In_default}
 
 -- the tests in their order, where they are passed
 as_file_block : (c : In_default) → Passes (file_block_tests 0 20 c.args.block.now)
 as_file_block c = fine c.judge_file_block.ensures c.in_default.is
 
-versioned : (c : Else-block-ne1) → Passes (file_block_tests 0 20 c.args.block.now and_then Layout when not (eqb (get_or c.args.block.now 4 0) 1))
-versioned c = both (as_file_block (goal.at.Else-block-ne1 c).In_default) (sound (agrees refl refl c.if-block-ne1.false))
+versioned : (c : In_default) → get_or c.args.block.now 4 0 ≡ 1 → Passes (file_block_tests 0 20 c.args.block.now and_then Layout when not (eqb (get_or c.args.block.now 4 0) 1))
+versioned c is = both (as_file_block c) (sound (agrees refl refl is))
 
 pub returns-in-Refused : goal.returns-in-Refused
 unfolding heading_tests
@@ -29,8 +29,8 @@ returns-then-block-ne1 c = refuse_verdict (first (then (as_file_block (goal.at.r
 
 pub returns-then-not-zeros_from : goal.returns-then-not-zeros_from
 unfolding heading_tests
-returns-then-not-zeros_from c = refuse_verdict (then (versioned (goal.at.returns-then-not-zeros_from c).Else-block-ne1) (broken (ap not (sym c.zeros_from.ensures ∙ c.if-not-zeros_from.true))))
+returns-then-not-zeros_from c = refuse_verdict (then (versioned (goal.at.returns-then-not-zeros_from c).In_default assumption) (broken (ap not (sym c.zeros_from.ensures ∙ c.if-not-zeros_from.true))))
 
 pub returns : goal.returns
 unfolding heading_tests
-returns c = grant_verdict (both (versioned (goal.at.returns c).Else-block-ne1) (sound (ap not (sym c.zeros_from.ensures ∙ c.if-not-zeros_from.false))))
+returns c = grant_verdict (both (versioned (goal.at.returns c).In_default assumption) (sound (ap not (sym c.zeros_from.ensures ∙ c.if-not-zeros_from.false))))

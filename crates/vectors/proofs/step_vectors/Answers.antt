@@ -33,7 +33,7 @@ pass c =
 -- past all tests
 granted : (c : Else-period-window) → Passes (vectors_tests c.args.period c.args.remainder c.args.window)
 unfolding vectors_tests
-granted c = both (both (pass (goal.at.Else-period-window c).In_default-judge_period) (sound (lt-leb _ _ c.if-period-remainder.false))) (sound (le-ltb _ _ c.if-period-window.false))
+granted c = both (both (pass (goal.at.Else-period-window c).In_default-judge_period) (sound (lt-leb _ _ (omega arith)))) (sound (le-ltb _ _ c.if-period-window.false))
 
 pub returns-in-Refused : goal.returns-in-Refused
 unfolding VectorsPromise vectors_tests
@@ -57,7 +57,7 @@ pub find_basis-requires : goal.find_basis-requires
 find_basis-requires c =
     let p = pass (goal.at.find_basis-requires c).In_default-judge_period in
     let window = valid_window (passes_first p) in
-    record { remainder = c.if-period-remainder.false; some = omega arith; window = c.if-period-window.false; small = (valid_period (passes_then p)).1 }
+    record { remainder = omega arith; some = omega arith; window = c.if-period-window.false; small = (valid_period (passes_then p)).1 }
 
 pub returns-in-Two : goal.returns-in-Two
 unfolding VectorsPromise
