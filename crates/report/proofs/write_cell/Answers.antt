@@ -18,7 +18,7 @@ printed : (c : After-wide)
     line map_word (a.cell.0 ∷ c.wide.result ∷ []) ≡ cell_report a.cell.0 a.value
 printed c =
     let a = c.args in
-    ap (λ v. line map_word (a.cell.0 ∷ v ∷ [])) c.wide.ensures ∙ sym (cell_line a.cell.0 a.value c.if-value-eq0.false)
+    ap (λ v. line map_word (a.cell.0 ∷ v ∷ [])) c.wide.ensures ∙ sym (cell_line a.cell.0 a.value assumption)
 
 pub returns-then-value-eq0 : goal.returns-then-value-eq0
 returns-then-value-eq0 c =
