@@ -127,8 +127,8 @@ module _ {A B S : Type 0} {Promise : A → Type 0} {told : A → B} {answer : B}
   -- "Bad input gets the refusal number .. exactly when its table says so", and its place
   by_table : {Table : ℕ → Place → Type 0} (place_of : B → ℕ) → ((reply : A) → Promise reply → place_of (told reply) ≡ place_in (says reply)) → ((reply : A) → Promise reply → (n : ℕ) (place : Place) → (says reply ≡ refused n place) ↔ Table n place) → ((n : ℕ) (place : Place) → Table n place → (1 ≤ n) × Counted place) → Tells Table (refusal_of answer) (place_of answer)
   by_table place_of place exactly some =
-      let place_in_lem : place_of answer ≡ place_in (says e.reply) = ap place_of e.is ∙ place e.reply e.promised in
-      rw (refusal_is, place_in_lem) (numbers_by_table (says e.reply) (exactly e.reply e.promised) some)
+      let told_place : place_of answer ≡ place_in (says e.reply) = ap place_of e.is ∙ place e.reply e.promised in
+      rw (refusal_is, told_place) (numbers_by_table (says e.reply) (exactly e.reply e.promised) some)
 
   -- the reply is a refusal
   alone : (Refused : Reason → Place → A) → ((reply : A) → Promise reply → (n : ℕ) (place : Place) → says reply ≡ refused n place → (reason : Reason) × (reply ≡ Refused reason place)) → refusal_of answer ≢ 0 → (reason : Reason) × (place : Place) × (answer ≡ told (Refused reason place))

@@ -16,7 +16,7 @@ use Rattle.blanking.proofs.Table.{blanking_renders}
 use Rattle.saved.proofs.Table.{saving_renders, reading_renders}
 use Rattle.text.specs.Table.{SaysOfText}
 use Rattle.text.proofs.Table.{text_renders}
-use Rattle.demands.specs.Given.{Gives, vectors, first_hit_lem, listing, making, adding, blanking, saving, reading, text, report, c_vectors, c_first_hit, c_listing, c_making, c_adding, c_blanking, c_saving, c_reading, c_text}
+use Rattle.demands.specs.Given.{Gives, vectors, first_hit, listing, making, adding, blanking, saving, reading, text, report, c_vectors, c_first_hit, c_listing, c_making, c_adding, c_blanking, c_saving, c_reading, c_text}
 use Rattle.demands.proofs.Demand1.{vectors_refused, first_hit_refused, listing_refused, map_refused, blanking_refused, saving_refused, reading_refused, text_refused, report_refused}
 use Rattle.demands.proofs.Demand1Exports.{exported_vectors_refused, exported_first_hit_refused, exported_listing_refused, exported_map_refused, exported_blanking_refused, exported_saving_refused, exported_reading_refused, exported_text_refused}
 
@@ -38,7 +38,7 @@ module _ (n : ℕ) (gone : Withdrawn n) where
   -- No call gives it, whatever its input: every operation and every C function, in every reply that its promise admits.
   pub never_given : Gives n → ⊥
   never_given (vectors p r I steps h place e) = said_not_withdrawn (vectors_renders p r I) n gone place ((vectors_refused p r I steps h n place).0 e)
-  never_given (first_hit_lem run source start r h place e) = said_not_withdrawn (first_hit_renders run source start) n gone place ((first_hit_refused run source start r h n place).0 e)
+  never_given (first_hit run source start r h place e) = said_not_withdrawn (first_hit_renders run source start) n gone place ((first_hit_refused run source start r h n place).0 e)
   never_given (listing run source start room r after h place e) = said_not_withdrawn (listing_renders run source start room) n gone place ((listing_refused run source start room r after h n place).0 e)
   never_given (making run periods weights phases before r after h place e) = said_not_withdrawn (map_renders run periods weights phases before) n gone place ((map_refused run periods weights phases before r after h n place).0 e)
   never_given (adding run periods weights phases before r after h place e) = said_not_withdrawn (map_renders run periods weights phases before) n gone place ((map_refused run periods weights phases before r after h n place).0 e)

@@ -38,7 +38,7 @@ use Rattle.demands.specs.Texts.{printed_by}
 -- with what it is asked, its reply and that this reads "refused n"; then the C functions, whose answers have a number, and 0 for none.
 pub data Gives (n : ℕ) : Type 0 where
   vectors : (p r I : ℕ) (steps : Steps) → VectorsPromise p r I steps → (place : Place) → says_vectors steps ≡ refused n place → Gives n
-  first_hit_lem : (run : Run) (source : Source) (start : RunCell) (reply : FirstHit) → FirstHitPromise run source start reply → (place : Place) → says_first_hit reply ≡ refused n place → Gives n
+  first_hit : (run : Run) (source : Source) (start : RunCell) (reply : FirstHit) → FirstHitPromise run source start reply → (place : Place) → says_first_hit reply ≡ refused n place → Gives n
   listing : (run : Run) (source : Source) (start : RunCell) (room : List ℕ) (reply : Listing) (after : List ℕ) → ListingPromise run source start room reply after → (place : Place) → says_listing reply ≡ refused n place → Gives n
   making : (run : Run) (periods weights phases before : List ℕ) (answer : Mapped) (after : List ℕ) → MakingPromise run periods weights phases before answer after → (place : Place) → says_map answer ≡ refused n place → Gives n
   adding : (run : Run) (periods weights phases before : List ℕ) (answer : Mapped) (after : List ℕ) → AddingPromise run periods weights phases before answer after → (place : Place) → says_map answer ≡ refused n place → Gives n

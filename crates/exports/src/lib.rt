@@ -25,7 +25,7 @@ use vectors::Steps;
 
 // The step vectors.
 #[repr(C)]
-#[derive(Drop)]
+#[derive(Clone, Copy)]
 pub struct StepsReply {
     pub refusal: u8,
     // 2 for a pair, 1 for a single vector.
@@ -40,7 +40,7 @@ pub struct StepsReply {
 
 // The first hit.
 #[repr(C)]
-#[derive(Drop)]
+#[derive(Clone, Copy)]
 pub struct FirstHitReply {
     pub refusal: u8,
     // 1 where there is a hit, else 0.
@@ -50,7 +50,7 @@ pub struct FirstHitReply {
 
 // How a listing ended.
 #[repr(C)]
-#[derive(Drop)]
+#[derive(Clone, Copy)]
 pub struct ListingReply {
     pub refusal: u8,
     // 1 where a hit is left, else 0.
@@ -63,7 +63,7 @@ pub struct ListingReply {
 
 // What a map call came to.
 #[repr(C)]
-#[derive(Drop)]
+#[derive(Clone, Copy)]
 pub struct MappedReply {
     pub refusal: u8,
     // The place of the source at fault, counted from 1; 0 where the refusal concerns none.
@@ -72,7 +72,7 @@ pub struct MappedReply {
 
 // What the blanking call came to.
 #[repr(C)]
-#[derive(Drop)]
+#[derive(Clone, Copy)]
 pub struct BlankingReply {
     pub refusal: u8,
     // How many stretches were written, two numbers each.
@@ -81,7 +81,7 @@ pub struct BlankingReply {
 
 // A run that was read from a file or a text.
 #[repr(C)]
-#[derive(Drop)]
+#[derive(Clone, Copy)]
 pub struct RunReply {
     pub refusal: u8,
     pub window: u32,
@@ -92,7 +92,7 @@ pub struct RunReply {
 
 // The run and the sources of a text.
 #[repr(C)]
-#[derive(Drop)]
+#[derive(Clone, Copy)]
 pub struct TextReply {
     pub run: RunReply,
     // The place of the source at fault, counted from 1; 0 where the refusal concerns none.

@@ -25,7 +25,7 @@ const ROOM: usize = 921600;
 const CELLS: usize = 65536;
 
 // What the list program prints: how many bytes, and the bytes; the rest is 0. The longest report has 921,354 bytes at most.
-#[derive(Drop)]
+#[derive(Clone, Copy)]
 pub struct Output {
     pub length: usize,
     pub bytes: [u8; ROOM],

@@ -31,7 +31,7 @@ pub enum Answer {
 
 // The reply with the sources: how many there are, and their periods, weights and phases at the beginning of the three lists.
 // All the rest is 0, and after a refusal everything.
-#[derive(Drop)]
+#[derive(Clone, Copy)]
 pub struct Input {
     pub answer: Answer,
     pub count: usize,

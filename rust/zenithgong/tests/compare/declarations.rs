@@ -74,7 +74,7 @@ fn functions(text: &str, start: &str, end: &str) -> Vec<(String, Vec<String>, St
 #[test]
 fn declarations_are_the_exports() {
     let (told, rattle, rust) = (plain(ANSWERS), plain(EXPORTS), plain(RUST));
-    let answers = structs(&told, "#[repr(C)] #[derive(Drop)] pub struct ");
+    let answers = structs(&told, "#[repr(C)] #[derive(Clone, Copy)] pub struct ");
     assert_eq!(structs(&rust, "#[repr(C)] pub struct "), answers);
     assert_eq!(answers.len(), told.matches("struct ").count());
     assert_eq!(0, rattle.matches("struct ").count());
