@@ -1,5 +1,5 @@
 -- Which lines are blanked. Each is known to be or not, a blanked line is one of the run's, and on a line of the run the guard cells are a
--- part of the map, from the lowest offset's distance to the highest's; and cells that are looked at part by part. Assumes nothing.
+-- part of the map, from the lowest offset's distance to the highest's. Assumes nothing.
 use Prim.Native.Nat.{ℕ, zero, suc, ◌+◌, ◌-◌, ◌*◌, ◌/◌, ◌%◌, ◌≤◌, ◌<◌}
 use native.Mathlib.Nat.{div-lt_iff_lt-mul, mul-le-mul_left, zero-mul}
 use native.Mathlib.Decide.{ℕ_discrete, dec_le, dec_lt, map_dec}
@@ -8,13 +8,10 @@ use mathlib.Core.Path.{◌≡◌, sym, ap, ◌∙◌}
 use mathlib.Core.Logic.Dec
 use mathlib.Core.Logic.Iff
 use mathlib.Core.Logic.{◌↔◌}
-use mathlib.Core.Bool.{true}
 use mathlib.Core.List.{List}
 use lib.IntN.{ℤ, pos, ◌+ℤ◌}
 use lib.ListN.{length, get_or, take, drop, length-take, length-drop}
 use lib.Seq.{get_or-take, get_or-drop}
-use lib.Dec.{leb}
-use borrow.Author.Tests.{leb-true, le-leb}
 use Rattle.signed.proofs.Parts.{parts, sum, le_z_known}
 use Rattle.scope.specs.declared.Run.{Run}
 use Rattle.scope.specs.Run.{lines_of, cells_of, line_of, offset_of}
@@ -22,7 +19,7 @@ use Rattle.scope.proofs.Numbering.{offset_distance, cell_parts, line_at, distanc
 use Rattle.blanking.specs.declared.Guard.{Guard}
 use Rattle.blanking.specs.declared.Stretch.{Stretch}
 use Rattle.blanking.specs.Stretches.{Blanked, MaximalStretches}
-use Rattle.blanking.specs.Inner.{Within, Guarded, Reaches, Largest}
+use Rattle.blanking.specs.Inner.{Within, Guarded, Reaches}
 use Rattle.blanking.proofs.Stretches.{stretches_exist}
 
 -- ---- every line is known to be blanked or not
@@ -67,8 +64,6 @@ pub blanked_stretches : (run : Run) (map : List ℕ) (threshold : ℕ) (guard : 
 blanked_stretches run map threshold guard =
     stretches_exist (Blanked run map threshold guard) (blanked_known run map threshold guard) (suc run.last) (λ j b. omega (arith, (blanked_inside j b).1))
 
--- ---- cells looked at part by part
-
 -- the part of the cells from `at` to before `next`
 part_reaches : (cells : List ℕ) (at next threshold : ℕ) → at ≤ next → next ≤ length cells → Reaches (take (next - at) (drop at cells)) threshold ↔ ((k : ℕ) × (at ≤ k) × (k < next) × (threshold ≤ get_or cells k 0))
 part_reaches cells at next threshold h fits = (
@@ -83,35 +78,6 @@ part_reaches cells at next threshold h fits = (
 
     cell : (k : ℕ) → k < next - at → get_or (take (next - at) (drop at cells)) k 0 ≡ get_or cells (at + k) 0
     cell k l = get_or-take (next - at) (drop at cells) k 0 l ∙ get_or-drop at cells k 0
-
--- none of the cells before `at` is at or above the threshold
-pub record NoneBefore (cells : List ℕ) (threshold at : ℕ) : Type 0 where
-  pub within : at ≤ length cells
-  pub none : (k : ℕ) → k < at → threshold ≤ get_or cells k 0 → ⊥
-
-pub none_at_first : (cells : List ℕ) (threshold : ℕ) → NoneBefore cells threshold 0
-none_at_first cells threshold = record { within = omega arith; none = λ k h. absurd (omega arith) }
-
-module _ {cells : List ℕ} {threshold at next top : ℕ} (some : 1 ≤ threshold) (before : NoneBefore cells threshold at) (on : at ≤ next) (fits : next ≤ length cells) (l : Largest (take (next - at) (drop at cells)) top) where
-  -- the largest of a part is: so one of the cells is
-  pub part_found : threshold ≤ top → Reaches cells threshold
-  part_found h = let r = (part_reaches cells at next threshold on fits).0 ((l threshold some).0 h) in (r.0, omega (arith, r.2), r.3)
-
-  -- it is not: so none of the part is
-  pub part_missed : top < threshold → NoneBefore cells threshold next
-  part_missed h = record { within = fits; none = λ k m reached. earlier k m reached (dec_lt k at) }
-    where
-      earlier : (k : ℕ) → k < next → threshold ≤ get_or cells k 0 → Dec (k < at) → ⊥
-      earlier k m reached (yes low) = before.none k low reached
-      earlier k m reached (no low) = omega (arith, (l threshold some).1 ((part_reaches cells at next threshold on fits).1 (k, omega arith, m, reached)))
-
-  -- and where no cell stands after the part, that tells of all
-  pub rest_tells : next ≡ length cells → (leb threshold top ≡ true) ↔ Reaches cells threshold
-  rest_tells end = (λ e. part_found (leb-true threshold top e), λ r. le-leb threshold top (found r (dec_le threshold top)))
-    where
-      found : Reaches cells threshold → Dec (threshold ≤ top) → threshold ≤ top
-      found r (yes h) = h
-      found r (no h) = absurd ((part_missed (omega arith)).none r.0 (omega (arith, r.1)) r.2)
 
 -- ---- the guard cells of a line, as a part of the map
 

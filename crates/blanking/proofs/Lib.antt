@@ -1,8 +1,9 @@
 pub mod Stretches
 pub mod Guarding
+pub mod Cells
 pub mod Lines
 pub mod Writing
-pub mod Asked
+pub mod InOrder
 pub mod Table
 pub mod Unique
 pub mod Meaning

@@ -1,51 +1,43 @@
--- A search for the first line that is blanked, or for the first that is not. Assumes nothing.
-use Prim.Native.Nat.{ℕ, suc, ◌+◌, ◌≤◌, ◌<◌, max}
+-- What a search for the first line that is blanked, and after it for the first that is not, tells of a stretch. Assumes nothing.
+use Prim.Native.Nat.{ℕ, suc, ◌+◌, ◌-◌, ◌≤◌, ◌<◌}
 use native.Mathlib.Decide.{dec_lt}
 use native.Mathlib.Omega.{arith}
-use mathlib.Core.Path.{◌≡◌, refl, sym}
-use mathlib.Core.Logic.{◌↔◌}
-use mathlib.Core.Bool.{Bool, true, false, not, beq, true≢false}
-use Rattle.scope.specs.declared.Run.{Run}
-use Rattle.blanking.specs.Inner.{As, NextLine}
+use mathlib.Core.Path.{◌≡◌}
+use mathlib.Core.Bool.{Bool, true, false, not}
+use Rattle.std.specs.Prelude.{Option, Some, None, MatchOption, unwrap_or}
+use Rattle.blanking.specs.Stretches.{In}
+use Rattle.blanking.specs.Inner.{As, NextLine, Begins}
 
--- no line from `line` to before `at` is as asked
-pub record Searched (run : Run) (So : ℕ → Type 0) (line : ℕ) (asked : Bool) (at : ℕ) : Type 0 where
-  pub on : line ≤ at
-  pub near : at ≤ max line (suc run.last)
-  pub passed : (j : ℕ) → line ≤ j → j < at → As (not asked) (So j)
+module _ (last : ℕ) (So : ℕ → Type 0) (line : ℕ) where
+  -- what `find` says of the lines up to the last
+  pub found_line : (asked : Bool) (found : Option ℕ) → MatchOption found ((j : ℕ) → line ≤ j → j < last + 1 → As (not asked) (So j)) (λ next. (line ≤ next) × (next < last + 1) × As asked (So next) × ((j : ℕ) → line ≤ j → j < next → As (not asked) (So j))) → NextLine last So line asked found
+  found_line asked (Some next) f = (f.0, omega (arith, f.1), f.3, f.2)
+  found_line asked None f = λ j h k. f j h (omega arith)
 
-pub search_starts : (run : Run) (So : ℕ → Type 0) (line : ℕ) (asked : Bool) → Searched run So line asked line
-search_starts run So line asked = record { on = omega arith; near = omega arith; passed = λ j h k. absurd (omega arith) }
+  module _ (inside : (j : ℕ) → So j → j ≤ last) where
+    -- no line is blanked from there on, so that there is no stretch
+    pub no_stretch : NextLine last So line true None → (j : ℕ) → line ≤ j → So j → ⊥
+    no_stretch n = λ j h so. n j h (omega (arith, inside j so)) so
 
--- what a test that is true exactly if the line is so tells, where it is as asked and where it is not
-as_asked : {So : Type 0} (test asked : Bool) → (test ≡ true) ↔ So → beq test asked ≡ true → As asked So
-as_asked true true tells e = tells.0 refl
-as_asked true false tells e = absurd (true≢false (sym e))
-as_asked false true tells e = absurd (true≢false (sym e))
-as_asked false false tells e = λ so. true≢false (sym (tells.1 so))
+    -- the line after the first stretch: the first that is not blanked, or the one after the last
+    ends_at : (first : ℕ) (end : Option ℕ) → first ≤ last → NextLine last So (first + 1) false end → let after = unwrap_or end (last + 1) in (first + 1 ≤ after) × ((j : ℕ) → first + 1 ≤ j → j < after → So j) × (So after → ⊥)
+    ends_at first (Some end) h n = (n.0, n.2, n.3)
+    ends_at first None h n = (omega arith, λ j k l. n j k (omega arith), λ so. omega (arith, inside (last + 1) so))
 
-not_as_asked : {So : Type 0} (test asked : Bool) → (test ≡ true) ↔ So → beq test asked ≡ false → As (not asked) So
-not_as_asked true true tells e = absurd (true≢false e)
-not_as_asked true false tells e = tells.0 refl
-not_as_asked false true tells e = λ so. true≢false (sym (tells.1 so))
-not_as_asked false false tells e = absurd (true≢false e)
-
-module _ {run : Run} {So : ℕ → Type 0} {line : ℕ} {asked : Bool} {at : ℕ} (s : Searched run So line asked at) where
-  -- the line at hand is as asked
-  pub search_ends : (test : Bool) → (test ≡ true) ↔ So at → beq test asked ≡ true → NextLine run So line asked at
-  search_ends test tells e = record { on = s.on; near = s.near; passed = s.passed; found = λ h. as_asked test asked tells e }
-
-  -- it is not
-  pub search_goes_on : at ≤ run.last → (test : Bool) → (test ≡ true) ↔ So at → beq test asked ≡ false → Searched run So line asked (at + 1)
-  search_goes_on h test tells n = record { on = omega (arith, s.on); near = omega (arith, s.on); passed = λ j k l. each j k l (dec_lt j at) }
-    where
-      here : As (not asked) (So at)
-      here = not_as_asked test asked tells n
-
-      each : (j : ℕ) → line ≤ j → j < at + 1 → Dec (j < at) → As (not asked) (So j)
-      each j k l (yes m) = s.passed j k m
-      each j k l (no m) = let e : at ≡ j = omega arith in rw e at here
-
-  -- no line is left
-  pub search_fails : run.last < at → NextLine run So line asked at
-  search_fails past = record { on = s.on; near = s.near; passed = s.passed; found = λ h. absurd (omega arith) }
+    pub one_stretch : (first : ℕ) (end : Option ℕ) → NextLine last So line true (Some first) → NextLine last So (first + 1) false end → let after = unwrap_or end (last + 1) in Begins So line (record { first = first; last = after - 1 }) × (after + 1 ≡ after - 1 + 2)
+    one_stretch first end n ends =
+        let at = ends_at first end n.1 ends in
+        let after = unwrap_or end (last + 1) in (
+          record {
+            below = n.0;
+            gap = λ j h k. n.2 j h k;
+            ordered = omega (arith, at.0);
+            each = λ j i. each j i (dec_lt first j);
+            after = λ so. at.2 (let is : suc (after - 1) ≡ after = omega (arith, at.0) in rw is at so);
+          },
+          omega (arith, at.0),
+        )
+      where
+        each : (j : ℕ) → In (record { first = first; last = unwrap_or end (last + 1) - 1 }) j → Dec (first < j) → So j
+        each j i (yes k) = let at = ends_at first end n.1 ends in at.1 j (omega arith) (omega (arith, i.1, at.0))
+        each j i (no k) = let is : first ≡ j = omega (arith, i.0) in rw is at n.3

@@ -15,11 +15,10 @@ use Rattle.scope.proofs.Judged.{Passes, said_answered, grant_stored}
 use Rattle.scope.proofs.Limits.{passes_first, passes_then}
 use Rattle.scope.proofs.Differs.{same}
 use Rattle.sources.specs.Entry.{entries_of}
-use Rattle.map.specs.declared.Mapped.TheVariants.{Done as Done·mapped}
 use Rattle.map.specs.Sum.{capped, summed}
 use Rattle.map.specs.Promise.{map_tests, weight_at, made, MakingPromiseAt}
 use Rattle.blanking.specs.declared.Guard.{Guard}
-use Rattle.blanking.specs.declared.Blanking.TheVariants.{Done}
+use Rattle.std.specs.Prelude.{Ok}
 use Rattle.blanking.specs.declared.Stretch.{Stretch}
 use Rattle.blanking.specs.Stretches.{Blanked, AllMaximal, InOne, MaximalStretches}
 use Rattle.blanking.specs.Promise.{asked_tests, blanking_tests, numbers_of, written, BlankingPromise}
@@ -59,7 +58,7 @@ listed_one (s ∷ stretches) rest j = let others = listed_one stretches rest j i
     from others (inl i) = (0, omega arith, i.0, i.1)
     from others (inr i) = let l = others.1 i in (suc l.0, omega (arith, l.1), rw (even l.0) l.2, rw (odd l.0) l.3)
 
-module _ {run : Run} {map : List ℕ} {threshold : ℕ} {guard : Guard} {room after : List ℕ} {count : ℕ} (h : BlankingPromise run map threshold guard room (Done count) after) where
+module _ {run : Run} {map : List ℕ} {threshold : ℕ} {guard : Guard} {room after : List ℕ} {count : ℕ} (h : BlankingPromise run map threshold guard room (Ok count) after) where
   -- a call that is done has passed its tests
   pub done_passes : Passes (blanking_tests run map threshold guard room h.stretches)
   done_passes = (said_answered (blanking_tests run map threshold guard room h.stretches) h.says).0
@@ -102,7 +101,7 @@ summed_cell c gain x zero k h = absurd (omega arith)
 summed_cell c gain x (suc n) zero h = rw (add-zero x)
 summed_cell c gain x (suc n) (suc k) h = rw (add-suc, ← suc-add) (summed_cell c gain (suc x) n k (omega arith))
 
-module _ {c : ℕ} {run : Run} {periods weights phases lent map : List ℕ} (makes : MakingPromiseAt c run periods weights phases lent Done·mapped map) where
+module _ {c : ℕ} {run : Run} {periods weights phases lent map : List ℕ} (makes : MakingPromiseAt c run periods weights phases lent (Ok tt) map) where
   -- what its cells hold
   made_cell : (x : ℕ) → x < cells_of run → get_or map x 0 ≡ capped c (weight_at run (entries_of periods weights phases) x)
   unfolding made
@@ -122,5 +121,5 @@ module _ {c : ℕ} {run : Run} {periods weights phases lent map : List ℕ} (mak
   )
 
   -- So a line is in a stretch of the list exactly if some guard cell of it has weights of its hits that sum to the threshold or more.
-  pub listed_disturbed : {threshold : ℕ} → threshold ≤ c → {guard : Guard} {room after : List ℕ} {count : ℕ} → BlankingPromise run map threshold guard room (Done count) after → (j : ℕ) → ListedIn after count j ↔ Disturbed run (entries_of periods weights phases) threshold guard j
+  pub listed_disturbed : {threshold : ℕ} → threshold ≤ c → {guard : Guard} {room after : List ℕ} {count : ℕ} → BlankingPromise run map threshold guard room (Ok count) after → (j : ℕ) → ListedIn after count j ↔ Disturbed run (entries_of periods weights phases) threshold guard j
   listed_disturbed {threshold} low {guard} h j = Iff.trans (listed_blanked h j) (blanked_disturbed threshold low guard j)

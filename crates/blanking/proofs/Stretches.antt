@@ -1,29 +1,19 @@
 -- The maximal stretches of lines that are so, whatever that is, taken one after the other from a line on: there is one list of them,
--- and from stretch to stretch it is gone through by two questions, where a stretch ends and where the next begins. Assumes nothing.
+-- and it is gone through from stretch to stretch. Assumes nothing.
 use Prim.Native.Nat.{ℕ, zero, suc, ◌+◌, ◌*◌, ◌≤◌, ◌<◌}
 use native.Mathlib.Decide.{dec_lt, dec_le}
 use native.Mathlib.Omega.{arith}
-use native.Mathlib.Numerals.{add-one}
 use mathlib.Core.Path.{◌≡◌, refl, sym, ap, ap₂, ◌∙◌}
 use mathlib.Core.Logic.{inl, inr}
 use mathlib.Core.List.{List, [], ◌∷◌}
 use lib.ListN.{length}
-use Rattle.scope.specs.declared.Run.{Run}
 use Rattle.blanking.specs.declared.Stretch.{Stretch}
 use Rattle.blanking.specs.Stretches.{In, AllMaximal, Rising, InOne, MaximalStretches}
-use Rattle.blanking.specs.Inner.{NextStretch}
+use Rattle.blanking.specs.Inner.{Begins}
 
 -- the stretch from a first to a last line
 abbrev pub stretch : ℕ → ℕ → Stretch
 stretch first last = record { first = first; last = last }
-
--- the first stretch from line x on
-pub record Begins (So : ℕ → Type 0) (x : ℕ) (s : Stretch) : Type 0 where
-  pub below : x ≤ s.first
-  pub gap : (j : ℕ) → x ≤ j → j < s.first → So j → ⊥
-  pub ordered : s.first ≤ s.last
-  pub each : (j : ℕ) → In s j → So j
-  pub after : So (suc s.last) → ⊥
 
 -- from line x on these are the stretches, one after the other
 abbrev pub From : (ℕ → Type 0) → ℕ → List Stretch → Type 0
@@ -99,7 +89,7 @@ module _ (So : ℕ → Type 0) where
   from_end (s ∷ stretches) past f = absurd (omega (arith, past s.first (f.0.each s.first (omega arith, f.0.ordered)), f.0.below))
 
   -- there is one list of them
-  from_unique : (a b : List Stretch) (x : ℕ) → From So x a → From So x b → a ≡ b
+  pub from_unique : (a b : List Stretch) (x : ℕ) → From So x a → From So x b → a ≡ b
   from_unique [] [] x f g = refl
   from_unique [] (t ∷ b) x f g = absurd (f t.first g.0.below (g.0.each t.first (omega arith, g.0.ordered)))
   from_unique (s ∷ a) b x f g =
@@ -225,27 +215,16 @@ module _ (So : ℕ → Type 0) where
       let inside = past s.last (f.0.each s.last (f.0.ordered, omega arith)) in
       omega (arith, f.0.below, f.0.ordered, from_few stretches past (omega (arith, inside)) f.1)
 
-  -- ---- from stretch to stretch, by the questions that the code asks
+  -- ---- from stretch to stretch, as the code finds them
 
-  module _ {run : Run} (inside : (j : ℕ) → So j → j ≤ run.last) {line : ℕ} {next : Stretch} (n : NextStretch run So line next) (stretches : List Stretch) (f : From So line stretches) where
-    -- the next stretch that is found is the first of these
-    pub to_next : next.first ≤ run.last → OneMore next.first next.last stretches
-    to_next some = from_stretch stretches (omega (arith, n.ends.on)) (λ j h k. each j h k (dec_lt next.first j)) not (from_skip stretches n.begins.on n.begins.passed f)
-      where
-        each : (j : ℕ) → next.first ≤ j → j ≤ next.last → Dec (next.first < j) → So j
-        each j h k (yes l) = n.ends.passed j (omega arith) (omega arith)
-        each j h k (no l) = let e : next.first ≡ j = omega arith in rw e at (n.begins.found some)
+  -- the next stretch that is found is the first of these
+  pub from_next : (stretches : List Stretch) {line : ℕ} {s : Stretch} → Begins So line s → From So line stretches → OneMore s.first s.last stretches
+  from_next stretches b f = from_stretch stretches b.ordered (λ j h k. b.each j (h, k)) b.after (from_skip stretches b.below b.gap f)
 
-        over : So (suc next.last) → Dec (suc next.last ≤ run.last) → ⊥
-        over s (yes l) = n.ends.found (omega arith) (rw (add-one next.last) s)
-        over s (no l) = omega (arith, inside (suc next.last) s)
-
-        not : So (suc next.last) → ⊥
-        not s = over s (dec_le (suc next.last) run.last)
-
-    -- and where it lies past the last line, there is none
-    pub to_end : run.last < next.first → stretches ≡ []
-    to_end past = from_end stretches (λ j so. omega (arith, inside j so)) (from_skip stretches n.begins.on n.begins.passed f)
+  -- and where none is found, there is none
+  pub from_none : (stretches : List Stretch) {line : ℕ} → ((j : ℕ) → line ≤ j → So j → ⊥) → From So line stretches → stretches ≡ []
+  from_none [] none f = refl
+  from_none (s ∷ stretches) none f = absurd (none s.first f.0.below (f.0.each s.first (omega arith, f.0.ordered)))
 
 -- No second list is that of the maximal stretches.
 pub stretches_unique : {So : ℕ → Type 0} {a b : List Stretch} → MaximalStretches So a → MaximalStretches So b → a ≡ b

@@ -1,10 +1,10 @@
 -- What the inner steps of the blanking call speak of besides the request's words.
-use Rattle.std.specs.Prelude.{ℕ, suc, ◌+◌, ◌*◌, ◌/◌, ◌≤◌, ◌<◌, max, ◌≡◌, ◌↔◌, Bool, true, false, not, List, ℤ, pos, neg_ℤ, length, get_or, ◌≤ℤ◌, ◌<ℤ◌}
+use Rattle.std.specs.Prelude.{ℕ, suc, ◌+◌, ◌*◌, ◌/◌, ◌≤◌, ◌<◌, ◌≡◌, Bool, true, false, not, List, ℤ, pos, neg_ℤ, length, get_or, Option, Some, None, ◌≤ℤ◌, ◌<ℤ◌}
 use Rattle.scope.specs.declared.Run.{Run}
 use Rattle.scope.specs.Run.{ValidRun, cells_of}
 use Rattle.blanking.specs.declared.Guard.{Guard}
 use Rattle.blanking.specs.declared.Stretch.{Stretch}
-use Rattle.blanking.specs.Stretches.{MaximalStretches}
+use Rattle.blanking.specs.Stretches.{In, MaximalStretches}
 use Rattle.blanking.specs.Promise.{written}
 
 -- An offset of a window.
@@ -26,30 +26,32 @@ pub record Guarded (run : Run) (map : List ℕ) (threshold : ℕ) (guard : Guard
 abbrev pub Reaches : List ℕ → ℕ → Type 0
 Reaches cells threshold = (k : ℕ) × (k < length cells) × (threshold ≤ get_or cells k 0)
 
--- The largest of these cells: a threshold above 0 is reached by it exactly if it is by one of them.
-abbrev pub Largest : List ℕ → ℕ → Type 0
-Largest cells top = (threshold : ℕ) → 1 ≤ threshold → (threshold ≤ top) ↔ Reaches cells threshold
-
 -- A line is so, or is not, as asked.
 abbrev pub As : Bool → Type 0 → Type 0
 As true So = So
 As false So = So → ⊥
 
--- The first line from `line` on that is as asked: those before it are not, and it is, or it lies past the last line.
-pub record NextLine (run : Run) (So : ℕ → Type 0) (line : ℕ) (asked : Bool) (next : ℕ) : Type 0 where
-  pub on : line ≤ next
-  pub near : next ≤ max line (suc run.last)
-  pub passed : (j : ℕ) → line ≤ j → j < next → As (not asked) (So j)
-  pub found : next ≤ run.last → As asked (So next)
+-- No line from `line` to before `end` is as asked.
+abbrev pub NoneTill : (ℕ → Type 0) → (line : ℕ) → (asked : Bool) → (end : ℕ) → Type 0
+NoneTill So line asked end = (j : ℕ) → line ≤ j → j < end → As (not asked) (So j)
 
--- The first stretch that begins at `line` or later, or one that begins past the last line.
-pub record NextStretch (run : Run) (So : ℕ → Type 0) (line : ℕ) (stretch : Stretch) : Type 0 where
-  pub begins : NextLine run So line true stretch.first
-  pub ends : NextLine run So (stretch.first + 1) false (stretch.last + 1)
+-- The first line from `line` to `last` that is as asked: those before it are not; or none is.
+abbrev pub NextLine : (last : ℕ) → (ℕ → Type 0) → (line : ℕ) → (asked : Bool) → Option ℕ → Type 0
+NextLine last So line asked (Some next) = (line ≤ next) × (next ≤ last) × NoneTill So line asked next × As asked (So next)
+NextLine last So line asked None = NoneTill So line asked (suc last)
 
--- The count of the stretches.
-abbrev pub Counts : (ℕ → Type 0) → ℕ → Type 0
-Counts So count = (stretches : List Stretch) → MaximalStretches So stretches → count ≡ length stretches
+-- The first stretch that begins at line x or later.
+pub record Begins (So : ℕ → Type 0) (x : ℕ) (stretch : Stretch) : Type 0 where
+  pub below : x ≤ stretch.first
+  pub gap : (j : ℕ) → x ≤ j → j < stretch.first → So j → ⊥
+  pub ordered : stretch.first ≤ stretch.last
+  pub each : (j : ℕ) → In stretch j → So j
+  pub after : So (suc stretch.last) → ⊥
+
+-- The first stretch that begins at `line` or later, and the line from which on the next may begin; or there is none.
+abbrev pub NextStretch : (So : ℕ → Type 0) → (line : ℕ) → Option Stretch → (next : ℕ) → Type 0
+NextStretch So line (Some stretch) next = Begins So line stretch × (next ≡ stretch.last + 2)
+NextStretch So line None next = (j : ℕ) → line ≤ j → So j → ⊥
 
 -- The room holds all of them.
 abbrev pub Fits : (ℕ → Type 0) → List ℕ → Type 0

@@ -3,3 +3,4 @@ pub mod Promise
 pub mod Table
 pub mod Meaning
 pub mod Inner
+pub mod InnerAsking

@@ -2,7 +2,7 @@
 -- guard cell whose hits' weights sum to the threshold or more.
 use Rattle.std.specs.Prelude.{ℕ, ◌+◌, ◌*◌, ◌≤◌, ◌<◌, List, get_or}
 use Rattle.scope.specs.declared.Run.{Run}
-use Rattle.sources.specs.Entry.{Entry}
+use Rattle.sources.specs.declared.Entry.{Entry}
 use Rattle.map.specs.Promise.{weight_at}
 use Rattle.blanking.specs.declared.Guard.{Guard}
 use Rattle.blanking.specs.Stretches.{GuardCell}

@@ -1,14 +1,13 @@
 -- Request E3, "Blanking list": what the call replies and stores, for every input.
-use Rattle.std.specs.Prelude.{ℕ, ◌/◌, ◌≡◌, not, List, [], ◌∷◌, ◌++◌, ltb, eqb, pos, neg_ℤ, length, drop}
+use Rattle.std.specs.Prelude.{ℕ, ◌/◌, ◌≡◌, not, List, [], ◌∷◌, ◌++◌, ltb, eqb, pos, neg_ℤ, length, drop, Result, Ok, Err}
 use Rattle.std.specs.Int.Signed.{lt_z, le_z}
 use Rattle.scope.specs.declared.Run.{Run}
 use Rattle.scope.specs.Run.{cells_of}
+use Rattle.scope.specs.declared.Refusal.{Refusal}
 use Rattle.scope.specs.Refusal.{Tests, ◌when◌, ◌and_then◌, number, complaint, run_tests}
 use Rattle.scope.specs.declared.Reason.TheVariants.{Room, Threshold, Guard as Guard·reason, StretchRoom}
 use Rattle.scope.specs.Reply.{Said, refused, answered, reply, stored}
 use Rattle.blanking.specs.declared.Guard.{Guard}
-use Rattle.blanking.specs.declared.Blanking.{Blanking}
-use Rattle.blanking.specs.declared.Blanking.TheVariants.{Done, Refused}
 use Rattle.blanking.specs.declared.Stretch.{Stretch}
 use Rattle.blanking.specs.Stretches.{Blanked, MaximalStretches}
 
@@ -44,14 +43,14 @@ unfoldable pub written : List Stretch → List ℕ → List ℕ
 written stretches room = numbers_of stretches ++ drop (length (numbers_of stretches)) room
 
 -- What a reply of the blanking call says: the count, or a refusal's number and place.
-abbrev pub says_blanking : Blanking → Said ℕ
-says_blanking (Done count) = answered count
-says_blanking (Refused reason place) = refused (number reason) place
+abbrev pub says_blanking : Result ℕ Refusal → Said ℕ
+says_blanking (Ok count) = answered count
+says_blanking (Err refusal) = refused (number refusal.reason) refusal.place
 
 -- The promise of the blanking call: "it writes the maximal stretches of consecutive lines that each have a guard cell at or above the
 -- threshold, .. and answers their count". The map is lent to be read alone. There is one such list, for every input
 -- (`stretches_unique`, `blanked_stretches`).
-pub record BlankingPromise (run : Run) (map : List ℕ) (threshold : ℕ) (guard : Guard) (room : List ℕ) (answer : Blanking) (after : List ℕ) : Type 0 where
+pub record BlankingPromise (run : Run) (map : List ℕ) (threshold : ℕ) (guard : Guard) (room : List ℕ) (answer : Result ℕ Refusal) (after : List ℕ) : Type 0 where
   pub stretches : List Stretch
   pub are : MaximalStretches (Blanked run map threshold guard) stretches
   pub says : says_blanking answer ≡ reply (complaint (blanking_tests run map threshold guard room stretches)) (length stretches)

@@ -2,14 +2,14 @@
 // Every function is proved. `list_stretches` is the one public operation here, and it asks nothing of its caller.
 #![tactic(auto)]
 
-ghost use Rattle.std.specs.Prelude.{◌≡◌, true, ◌↔◌, ◌+◌, ◌/◌, ◌≤◌, pos, ◌+ℤ◌};
+ghost use Rattle.std.specs.Prelude.{◌≡◌, ℕ, true, ◌↔◌, ◌+◌, ◌-◌, ◌/◌, ◌≤◌, pos, ◌+ℤ◌};
+ghost use Rattle.std.specs.Iterator.{at_most};
 ghost use Rattle.scope.specs.Refusal.{complaint};
 ghost use Rattle.scope.specs.Inner.{verdict};
-ghost use Rattle.blanking.specs.Stretches.{Blanked};
 ghost use Rattle.blanking.specs.Promise.{guard_tests, asked_tests, BlankingPromise};
-ghost use Rattle.blanking.specs.Inner.{Within, Guarded, Reaches, Largest, NextLine, NextStretch, Counts, Fits, Writes};
+ghost use Rattle.blanking.specs.Inner.{Within, Guarded, Reaches, NextLine, Fits, Writes};
 
-use scope::{Place, Reason, Run, Verdict};
+use scope::{Reason, Refusal, Run};
 
 // A guard part of the window: its lowest and its highest offset, which both belong to it.
 #[derive(Clone, Copy)]
@@ -25,53 +25,46 @@ pub struct Stretch {
     pub last: u32,
 }
 
-// The reply of the blanking call.
+// What a call asks, where it is in order: the run, its map, the threshold and the guard.
 #[derive(Clone, Copy)]
-pub enum Blanking {
-    // So many stretches there are, and all of them were written.
-    Done(usize),
-    // Why it is refused, and where; nothing was written.
-    Refused(Reason, Place),
+struct Asked<'a> {
+    run: Run,
+    map: &'a [u8],
+    threshold: u8,
+    guard: Guard,
+    ghost in_order: { Guarded run map.now threshold guard },
+}
+
+// The stretches of a run that begin at a line or later, one after the other.
+#[derive(Clone, Copy)]
+struct StretchesFrom<'a> {
+    asked: Asked<'a>,
+    line: u32,
+    ghost begun: { asked.run.first ≤ line },
+    ghost near: { line ≤ asked.run.last + 2 },
 }
 
 // So many cells are looked at in one go: as many as a vector register holds.
 const GROUP: usize = 16;
 
 // What the table says of a guard: whether it reaches outside the window, to the left or to the right, or is upside down.
-fn judge_guard(window: u32, guard: Guard) -> Verdict
+fn judge_guard(window: u32, guard: Guard) -> Result<(), Refusal>
     ensures { result ≡ verdict (complaint (guard_tests window guard)) }
 {
-    let half = (window / 2) as i64;
-    if guard.lowest < -half {
-        return Verdict::Refused(Reason::Guard, Place::Nowhere);
-    }
-    if half <= guard.highest {
-        return Verdict::Refused(Reason::Guard, Place::Nowhere);
-    }
-    if guard.highest < guard.lowest {
-        return Verdict::Refused(Reason::Guard, Place::Nowhere);
-    }
-    Verdict::Fine
+    let half = i64::from(window / 2);
+    Reason::Guard.when(guard.lowest < -half)?;
+    Reason::Guard.when(half <= guard.highest)?;
+    Reason::Guard.when(guard.highest < guard.lowest)
 }
 
 // What the tests come to that need no look at the cells: the run, the threshold, the guard, the map's length.
-fn judge(run: Run, map: &[u8], threshold: u8, guard: Guard) -> Verdict
+fn judge(run: Run, map: &[u8], threshold: u8, guard: Guard) -> Result<(), Refusal>
     ensures { result ≡ verdict (complaint (asked_tests run map.now threshold guard)) }
 {
-    if let Verdict::Refused(reason, place) = scope::judge_run(run) {
-        return Verdict::Refused(reason, place);
-    }
-    if threshold == 0 {
-        return Verdict::Refused(Reason::Threshold, Place::Nowhere);
-    }
-    if let Verdict::Refused(reason, place) = judge_guard(run.window, guard) {
-        return Verdict::Refused(reason, place);
-    }
-    let cells = scope::cells(run);
-    if map.len() as u64 != cells {
-        return Verdict::Refused(Reason::Room, Place::Nowhere);
-    }
-    Verdict::Fine
+    scope::judge_run(run)?;
+    Reason::Threshold.when(threshold == 0)?;
+    judge_guard(run.window, guard)?;
+    Reason::Room.when(map.len() as u64 != scope::cells(run))
 }
 
 // How far an offset of the window lies from the window's left edge.
@@ -79,110 +72,108 @@ fn distance(window: u32, offset: i64) -> usize
     requires { Within window offset }
     ensures { offset +ℤ pos (window / 2) ≡ pos result }
 {
-    (offset + (window / 2) as i64) as usize
+    (offset + i64::from(window / 2)) as usize
 }
 
-// The largest of these cells, 0 where there is none. Of a fixed number of cells the compiler makes a few vector instructions of it, since
-// it does not matter in which order they are taken.
-fn largest(cells: &[u8]) -> u8
-    ensures { Largest cells.now result }
+// Whether one of a group of cells is at or above the threshold. Each of them is looked at, also after one that is: of that the compiler
+// makes a few vector instructions, where an `any` would leave the group at the first.
+fn group_reaches(group: &[u8; GROUP], threshold: u8) -> bool
+    ensures { (result ≡ true) ↔ Reaches group.now threshold }
 {
-    let mut top: u8 = 0;
-    let mut at = 0;
-    while at < cells.len() {
-        if top < cells[at] {
-            top = cells[at];
-        }
-        at += 1;
-    }
-    top
+    group
+        .iter()
+        .fold(false, |reached, cell| reached | (threshold <= *cell))
 }
 
 // Whether one of these cells is at or above the threshold. They are looked at in groups, and no further than to the first group that
-// has one.
+// has one; the largest is taken of the few cells after the last group.
 fn reaches(cells: &[u8], threshold: u8) -> bool
-    requires { 1 ≤ threshold }
     ensures { (result ≡ true) ↔ Reaches cells.now threshold }
 {
-    let end = cells.len();
-    let mut at: usize = 0;
-    while GROUP <= end - at {
-        let next = at + GROUP;
-        if threshold <= largest(&cells[at..next]) {
-            return true;
+    let (groups, rest) = cells.as_chunks::<GROUP>();
+    groups.iter().any(|group| group_reaches(group, threshold))
+        || rest
+            .iter()
+            .copied()
+            .max()
+            .is_some_and(|top| threshold <= top)
+}
+
+impl<'a> Asked<'a> {
+    ghost use Rattle.blanking.specs.InnerAsking.{Blanks};
+
+    // Whether a line of the run is blanked: of its cells those of the guard alone are looked at.
+    fn is_blanked(&self, line: u32) -> bool
+        requires { (self.now.run.first ≤ line) × (line ≤ self.now.run.last) }
+        ensures { (result ≡ true) ↔ Blanks self.now line }
+    {
+        let Asked {
+            run,
+            map,
+            threshold,
+            guard,
+        } = *self;
+        let base = (line - run.first) as usize * run.window as usize;
+        let from = base + distance(run.window, guard.lowest);
+        let end = base + distance(run.window, guard.highest) + 1;
+        reaches(&map[from..end], threshold)
+    }
+
+    // The first line from `line` on that is blanked, or the first that is not, as `blanked` says, where the run has one. One search for both:
+    // they differ in what is looked for, not in a step.
+    fn next_line(&self, line: u32, blanked: bool) -> Option<u32>
+        requires { self.now.run.first ≤ line }
+        ensures { NextLine self.now.run.last (Blanks self.now) line blanked result }
+    {
+        (line..self.run.last + 1).find(|line| self.is_blanked(*line) == blanked)
+    }
+
+    // The stretches of the run, from its first line on.
+    fn stretches(&self) -> StretchesFrom<'a>
+        ensures asks { result.asked ≡ self.now }
+        ensures begins { result.line ≡ self.now.run.first }
+    {
+        StretchesFrom {
+            asked: *self,
+            line: self.run.first,
         }
-        at = next;
     }
-    threshold <= largest(&cells[at..end])
-}
 
-// Whether a line of the run is blanked: of its cells those of the guard alone are looked at.
-fn is_blanked(run: Run, map: &[u8], threshold: u8, guard: Guard, line: u32) -> bool
-    requires { Guarded run map.now threshold guard × (run.first ≤ line) × (line ≤ run.last) }
-    ensures { (result ≡ true) ↔ Blanked run map.now threshold guard line }
-{
-    let base = (line - run.first) as usize * run.window as usize;
-    let from = base + distance(run.window, guard.lowest);
-    let end = base + distance(run.window, guard.highest) + 1;
-    reaches(&map[from..end], threshold)
-}
-
-// The first line from `line` on that is blanked, or the first that is not, as `blanked` says. Where the run has none from there on,
-// it is the line after the last, or `line` itself if that lies even further on.
-fn next_line(run: Run, map: &[u8], threshold: u8, guard: Guard, line: u32, blanked: bool) -> u32
-    requires { Guarded run map.now threshold guard × (run.first ≤ line) }
-    ensures { NextLine run (Blanked run map.now threshold guard) line blanked result }
-{
-    let mut at = line;
-    while at <= run.last {
-        if is_blanked(run, map, threshold, guard, at) == blanked {
-            return at;
+    // Writes the stretches, the first and the last line of each, into a room that holds them all; by number, since of a room gone through by
+    // `chunks_mut` nothing is known once it is written.
+    fn write_stretches(&self, room: &mut [u32])
+        requires { Fits (Blanks self.now) room.old }
+        ensures { Writes (Blanks self.now) room.old room.new }
+    {
+        for (k, stretch) in self.stretches().enumerate() {
+            room[2 * k] = stretch.first;
+            room[2 * k + 1] = stretch.last;
         }
-        at += 1;
-    }
-    at
-}
-
-// The first stretch that begins at `line` or later. Where there is none, its first line lies past the run's last.
-fn next_stretch(run: Run, map: &[u8], threshold: u8, guard: Guard, line: u32) -> Stretch
-    requires { Guarded run map.now threshold guard × (run.first ≤ line) × (line ≤ run.last + 2) }
-    ensures { NextStretch run (Blanked run map.now threshold guard) line result }
-{
-    // the first line that is blanked, and after it the first that is not
-    let first = next_line(run, map, threshold, guard, line, true);
-    let end = next_line(run, map, threshold, guard, first + 1, false);
-    Stretch {
-        first,
-        last: end - 1,
     }
 }
 
-// How many stretches there are. The line after a stretch is known not to be blanked, so that the next begins two lines on or later.
-fn count_stretches(run: Run, map: &[u8], threshold: u8, guard: Guard) -> usize
-    requires { Guarded run map.now threshold guard }
-    ensures { Counts (Blanked run map.now threshold guard) result }
-{
-    let mut count: usize = 0;
-    let mut stretch = next_stretch(run, map, threshold, guard, run.first);
-    while stretch.first <= run.last {
-        count += 1;
-        stretch = next_stretch(run, map, threshold, guard, stretch.last + 2);
-    }
-    count
-}
+// The line after a stretch is known not to be blanked, so that the next begins two lines on or later.
+impl Iterator for StretchesFrom<'_> {
+    ghost use Rattle.blanking.specs.InnerAsking.{Gives};
 
-// Writes the stretches, the first and the last line of each, into a room that holds them all.
-fn write_stretches(run: Run, map: &[u8], threshold: u8, guard: Guard, room: &mut [u32])
-    requires { Guarded run map.now threshold guard × Fits (Blanked run map.now threshold guard) room.old }
-    ensures { Writes (Blanked run map.now threshold guard) room.old room.new }
-{
-    let mut at: usize = 0;
-    let mut stretch = next_stretch(run, map, threshold, guard, run.first);
-    while stretch.first <= run.last {
-        room[at] = stretch.first;
-        room[at + 1] = stretch.last;
-        at += 2;
-        stretch = next_stretch(run, map, threshold, guard, stretch.last + 2);
+    type Item = Stretch;
+
+    ghost next_gives = { Gives };
+
+    ghost remaining = { λ s. at_most (s.asked.run.last + 2 - s.line) };
+
+    fn next(&mut self) -> Option<Stretch> {
+        // the first line that is blanked, and after it the first that is not
+        let asked = self.asked;
+        let first = asked.next_line(self.line, true)?;
+        let end = asked
+            .next_line(first + 1, false)
+            .unwrap_or(asked.run.last + 1);
+        self.line = end + 1;
+        Some(Stretch {
+            first,
+            last: end - 1,
+        })
     }
 }
 
@@ -197,16 +188,18 @@ pub fn list_stretches(
     threshold: u8,
     guard: Guard,
     room: &mut [u32],
-) -> Blanking
+) -> Result<usize, Refusal>
     ensures { BlankingPromise run map.now threshold guard room.old result room.new }
 {
-    if let Verdict::Refused(reason, place) = judge(run, map, threshold, guard) {
-        return Blanking::Refused(reason, place);
-    }
-    let count = count_stretches(run, map, threshold, guard);
-    if room.len() / 2 < count {
-        return Blanking::Refused(Reason::StretchRoom, Place::Nowhere);
-    }
-    write_stretches(run, map, threshold, guard, room);
-    Blanking::Done(count)
+    judge(run, map, threshold, guard)?;
+    let asked = Asked {
+        run,
+        map,
+        threshold,
+        guard,
+    };
+    let count = asked.stretches().count();
+    Reason::StretchRoom.when(room.len() / 2 < count)?;
+    asked.write_stretches(room);
+    Ok(count)
 }

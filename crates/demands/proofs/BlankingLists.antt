@@ -1,5 +1,6 @@
 -- Request E3, what its report means, over the promises alone: which lines a blanking list lists, that a cut of the run changes nothing of
 -- that, which room is always enough, and that such lists exist. Assumes nothing.
+use Rattle.std.specs.Prelude.{Ok}
 use Prim.Native.Nat.{ℕ, suc, ◌+◌, ◌-◌, ◌*◌, ◌%◌, ◌≤◌, ◌<◌}
 use native.Mathlib.Nat.{mod-lt, mul-le-mul_right}
 use native.Mathlib.Decide.{dec_le}
@@ -16,10 +17,8 @@ use Rattle.scope.specs.Run.{ValidRun, lines_of, cells_of, shift_of}
 use Rattle.scope.specs.Inner.{IsBlock}
 use Rattle.scope.proofs.Numbering.{cell_parts, line_shift, offset_shift, valid_block}
 use Rattle.sources.specs.Entry.{entries_of}
-use Rattle.map.specs.declared.Mapped.TheVariants.{Done as Done·mapped}
 use Rattle.map.specs.Promise.{MakingPromiseAt}
 use Rattle.blanking.specs.declared.Guard.{Guard}
-use Rattle.blanking.specs.declared.Blanking.TheVariants.{Done}
 use Rattle.blanking.specs.Stretches.{Blanked}
 use Rattle.blanking.specs.Promise.{written, BlankingPromise}
 use Rattle.blanking.specs.Table.{BadGuard, HoldsFewer}
@@ -34,12 +33,12 @@ use Rattle.demands.proofs.Cuts.{piece_is, before, before_within, before_first, b
 use Rattle.demands.proofs.Demand1.{blanking_silent}
 
 -- The lines in the stretches that a call wrote are the lines with a guard cell at or above the threshold.
-pub listed_blanked : (run : Run) (map : List ℕ) (threshold : ℕ) (guard : Guard) (room after : List ℕ) (count : ℕ) → BlankingPromise run map threshold guard room (Done count) after → (j : ℕ) → ListedIn after count j ↔ Blanked run map threshold guard j
+pub listed_blanked : (run : Run) (map : List ℕ) (threshold : ℕ) (guard : Guard) (room after : List ℕ) (count : ℕ) → BlankingPromise run map threshold guard room (Ok count) after → (j : ℕ) → ListedIn after count j ↔ Blanked run map threshold guard j
 listed_blanked run map threshold guard room after count h = Meaning.listed_blanked h
 
 -- Where the plain map call made the map of a list of sources, and the threshold is not above the ceiling: a line is in a stretch exactly if
 -- some guard cell of it has weights of its hits that sum to the threshold or more.
-pub listed_disturbed : (c : ℕ) (run : Run) (periods weights phases lent map : List ℕ) → MakingPromiseAt c run periods weights phases lent Done·mapped map → (threshold : ℕ) → threshold ≤ c → (guard : Guard) (room after : List ℕ) (count : ℕ) → BlankingPromise run map threshold guard room (Done count) after → (j : ℕ) → ListedIn after count j ↔ Disturbed run (entries_of periods weights phases) threshold guard j
+pub listed_disturbed : (c : ℕ) (run : Run) (periods weights phases lent map : List ℕ) → MakingPromiseAt c run periods weights phases lent (Ok tt) map → (threshold : ℕ) → threshold ≤ c → (guard : Guard) (room after : List ℕ) (count : ℕ) → BlankingPromise run map threshold guard room (Ok count) after → (j : ℕ) → ListedIn after count j ↔ Disturbed run (entries_of periods weights phases) threshold guard j
 listed_disturbed c run periods weights phases lent map makes threshold low guard room after count h = Meaning.listed_disturbed makes low h
 
 -- A room of one number more than the run has lines is never refused 21.
@@ -47,7 +46,7 @@ pub room_enough : (run : Run) (map : List ℕ) (threshold : ℕ) (guard : Guard)
 room_enough run map threshold guard room long fewer = omega (arith, Meaning.stretches_few run map threshold guard fewer.1, fewer.2)
 
 -- Asked within the ranges, with such a room, the reply that a call is done fits, and by `blanking_unique` no other does.
-pub list_exists : (run : Run) (map : List ℕ) (threshold : ℕ) (guard : Guard) (room : List ℕ) → ValidRun run → 1 ≤ threshold → (BadGuard run.window guard → ⊥) → length map ≡ cells_of run → suc (lines_of run) ≤ length room → (count : ℕ) × (after : List ℕ) × BlankingPromise run map threshold guard room (Done count) after
+pub list_exists : (run : Run) (map : List ℕ) (threshold : ℕ) (guard : Guard) (room : List ℕ) → ValidRun run → 1 ≤ threshold → (BadGuard run.window guard → ⊥) → length map ≡ cells_of run → suc (lines_of run) ≤ length room → (count : ℕ) × (after : List ℕ) × BlankingPromise run map threshold guard room (Ok count) after
 list_exists run map threshold guard room v some inside whole long =
     let made = blanked_stretches run map threshold guard in
     let silent = (blanking_silent run v.fits map threshold guard room).1 (v, some, inside, whole, room_enough run map threshold guard room long) in
@@ -104,7 +103,7 @@ module _ {run block : Run} (v : ValidRun run) (b : IsBlock run block) (some : bl
       }
 
 -- a block that begins at a line, with the part of the map that begins after the cells before that line
-module _ {run : Run} (v : ValidRun run) (threshold : ℕ) (guard : Guard) {map : List ℕ} {line : ℕ} {block : Run} (p : Piece run line block) (b : IsBlock run block) (list : BlockList) (h : BlankingPromise block list.map threshold guard list.room (Done list.count) list.after) (front rest : List ℕ) (is : map ≡ front ++ list.map ++ rest) (at : length front ≡ before run line) where
+module _ {run : Run} (v : ValidRun run) (threshold : ℕ) (guard : Guard) {map : List ℕ} {line : ℕ} {block : Run} (p : Piece run line block) (b : IsBlock run block) (list : BlockList) (h : BlankingPromise block list.map threshold guard list.room (Ok list.count) list.after) (front rest : List ℕ) (is : map ≡ front ++ list.map ++ rest) (at : length front ≡ before run line) where
   shifted : length front ≡ shift_of run block
   shifted = at ∙ before_piece p
 
@@ -150,7 +149,7 @@ blocks_blanked {run} v blocks lists cut threshold guard keep is j =
 
 -- Cut into blocks, each with its part of the run's map: the lines in stretches of the blocks are the lines in stretches of the run. A
 -- stretch may be split at a border; no line is lost or invented.
-pub blocks_listed : (run : Run) (blocks : List Run) (lists : List BlockList) → ValidRun run → Cut run blocks → (threshold : ℕ) (guard : Guard) → BlockLists threshold guard blocks lists → (room after : List ℕ) (count : ℕ) → BlankingPromise run (parts_of lists) threshold guard room (Done count) after → (j : ℕ) → ListedInOne lists j ↔ ListedIn after count j
+pub blocks_listed : (run : Run) (blocks : List Run) (lists : List BlockList) → ValidRun run → Cut run blocks → (threshold : ℕ) (guard : Guard) → BlockLists threshold guard blocks lists → (room after : List ℕ) (count : ℕ) → BlankingPromise run (parts_of lists) threshold guard room (Ok count) after → (j : ℕ) → ListedInOne lists j ↔ ListedIn after count j
 blocks_listed run blocks lists v cut threshold guard keep room after count h j =
     let here = blocks_blanked v blocks lists cut threshold guard keep refl j in
     let all = Meaning.listed_blanked h j in

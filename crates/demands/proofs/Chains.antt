@@ -11,23 +11,24 @@ use mathlib.Core.Option.{Option, some, none}
 use lib.ListN.{length, take, drop, length-take, length-drop, take-append-drop}
 use lib.Seq.{take_at}
 use borrow.Author.Tests.{eqb-false, ne_eqb, lt-leb}
+use Rattle.std.specs.Prelude.{Option as Option·code, Some, None, Result, Ok, Err}
 use Rattle.scope.specs.declared.Run.{Run}
 use Rattle.scope.specs.declared.Source.{Source}
 use Rattle.scope.specs.declared.RunCell.{RunCell}
 use Rattle.scope.specs.declared.BlockCell.{BlockCell}
 use Rattle.scope.specs.Run.{ValidRun, ValidSource, cells_of}
 use Rattle.scope.specs.Hit.{is_hit, hits_from}
-use Rattle.scope.specs.Refusal.{Complaint, complaint, number}
+use Rattle.scope.specs.declared.Refusal.{Refusal}
+use Rattle.scope.specs.Refusal.{complaint, number}
 use Rattle.scope.specs.declared.Place.{Place}
 use Rattle.scope.specs.Reply.{refused, answered, reply, stored}
 use Rattle.scope.proofs.Judged.{Passes, both, sound}
 use Rattle.scope.proofs.Limits.{passes_then, passes_when, valid_run_passes, valid_source_passes}
 use Rattle.scope.proofs.Hits.{hit_hits, hit_or_miss, hits_at, hits_over}
 use Rattle.hits.specs.declared.Listing.{Listing}
-use Rattle.hits.specs.declared.Listing.TheVariants.{Done, More, Refused}
 use Rattle.hits.specs.Promise.{first_hit_tests, listing_tests, first, Listed, says_listing, listed, written, ListingPromise}
 use Rattle.demands.specs.FirstHit.{IsFirstHit}
-use Rattle.demands.specs.Listing.{Chain, done, more, block_cells, list_of, calls_of, Mores, none_yet, one_more, Lends}
+use Rattle.demands.specs.Listing.{all_listed, more_from, Chain, done, more, block_cells, list_of, calls_of, Mores, none_yet, one_more, Lends}
 use Rattle.demands.proofs.FirstHits.{first_is}
 use Rattle.demands.proofs.SomeReply.{listing_exists}
 
@@ -87,14 +88,14 @@ module _ (block : Run) (source : Source) (start : RunCell) (room : List ℕ) whe
   unfolding listing_tests
   had_room p = let e = eqb-false (length room) 0 (passes_when (passes_then p)) in omega (arith, e)
 
-  told : (after : List ℕ) (r : Listing) (n : ℕ) (next : Option ℕ) → ListingPromise block source start room r after → says_listing r ≡ answered (record { count = n; next = next }) → Told after n next
+  told : (after : List ℕ) (r : Result Listing Refusal) (n : ℕ) (next : Option ℕ) → ListingPromise block source start room r after → says_listing r ≡ answered (record { count = n; next = next }) → Told after n next
   unfolding listed
   told after r n next h e = go (complaint (listing_tests block source start room)) refl (sym e ∙ h.says) h.stores
     where
       hits : List ℕ
       hits = hits_from block source start.0
 
-      go : (o : Option Complaint) → complaint (listing_tests block source start room) ≡ o → answered (record { count = n; next = next }) ≡ reply o (listed hits room) → after ≡ stored o room (written hits room) → Told after n next
+      go : (o : Option Refusal) → complaint (listing_tests block source start room) ≡ o → answered (record { count = n; next = next }) ≡ reply o (listed hits room) → after ≡ stored o room (written hits room) → Told after n next
       go (some c) i e k = absurd (let z : ◌≡◌ {A = ℕ} 0 1 = cc in omega arith)
       go none i e k =
           let same : record { count = n; next = next } ≡ listed hits room = cc in
@@ -129,22 +130,22 @@ record Left (block : Run) (source : Source) (start : RunCell) (room after : List
   some : 1 ≤ length (hits_from block source next.0)
   fewer : length (hits_from block source next.0) < length (hits_from block source start.0)
 
-left : {block : Run} {source : Source} {start next : RunCell} {room after : List ℕ} {n : ℕ} → ListingPromise block source start room (More n next) after → Left block source start room after n next
+left : {block : Run} {source : Source} {start next : RunCell} {room after : List ℕ} {n : ℕ} → ListingPromise block source start room (more_from n next) after → Left block source start room after n next
 left {block} {source} {start} {next} {room} {after} {n} h =
-    let t = told block source start room after (More n next) n (some next.0) h refl in
+    let t = told block source start room after (more_from n next) n (some next.0) h refl in
     let g = goes_on block source (length room) start.0 next.0 (sym t.goes) in
     let m = more_left (length room) (hits_from block source start.0) t.goes in
     let size : length (hits_from block source next.0) ≡ length (hits_from block source start.0) - length room = rw (← g.rest) (length-drop (length room) (hits_from block source start.0)) in
     record { wrote = t.wrote; rest = g.rest; inside = g.inside; some = omega arith; fewer = omega arith }
 
 -- "more from" names a cell of the block
-pub goes_inside : {block : Run} {source : Source} {start next : RunCell} {room after : List ℕ} {n : ℕ} → ListingPromise block source start room (More n next) after → next.0 < cells_of block
+pub goes_inside : {block : Run} {source : Source} {start next : RunCell} {room after : List ℕ} {n : ℕ} → ListingPromise block source start room (more_from n next) after → next.0 < cells_of block
 goes_inside h = (left h).inside
 
 -- The list of a chain is the list of the hits from its start on.
 pub chain_lists : {block : Run} {source : Source} {start : RunCell} (chain : Chain block source start) → list_of chain ≡ block_cells (hits_from block source start.0)
 chain_lists {block} {source} {start} (done room after n promise) =
-    let t = told block source start room after (Done n) n none promise refl in
+    let t = told block source start room after (all_listed n) n none promise refl in
     ap block_cells (t.wrote ∙ all_taken (length room) (hits_from block source start.0) t.goes)
 chain_lists {block} {source} {start} (more room after n next promise rest) =
     let l = left promise in
@@ -171,7 +172,7 @@ accepted {block} {source} v w start inside room lent =
     both (both (both (valid_run_passes v) (valid_source_passes w)) (sound (lt-leb (cells_of block) start.0 inside))) (sound (ne_eqb (length room) 0 (λ e. omega arith)))
 
 -- it is not refused
-pub not_refused : {block : Run} {source : Source} → ValidRun block → ValidSource source → (start : RunCell) → start.0 < cells_of block → (room : List ℕ) → 1 ≤ length room → (r : Listing) (after : List ℕ) → ListingPromise block source start room r after → (n : ℕ) (place : Place) → says_listing r ≡ refused n place → ⊥
+pub not_refused : {block : Run} {source : Source} → ValidRun block → ValidSource source → (start : RunCell) → start.0 < cells_of block → (room : List ℕ) → 1 ≤ length room → (r : Result Listing Refusal) (after : List ℕ) → ListingPromise block source start room r after → (n : ℕ) (place : Place) → says_listing r ≡ refused n place → ⊥
 not_refused {block} {source} v w start inside room lent r after h n place e =
     let p = (accepted v w start inside room lent).is in
     let s : refused n place ≡ answered (listed (hits_from block source start.0) room) = sym e ∙ h.says ∙ rw p in
@@ -187,13 +188,16 @@ pub record Lent (block : Run) (source : Source) (start : RunCell) (rooms : ℕ �
 lent_from : {block : Run} {source : Source} → ValidRun block → ValidSource source → (start : RunCell) → start.0 < cells_of block → (rooms : ℕ → List ℕ) → ((k : ℕ) → 1 ≤ length (rooms k)) → ((next : RunCell) → next.0 < cells_of block → length (hits_from block source next.0) < length (hits_from block source start.0) → Lent block source next (λ k. rooms (suc k))) → Lent block source start rooms
 lent_from {block} {source} v w start inside rooms above rest = let o = listing_exists block source start (rooms 0) in go o.0 o.1 o.2
   where
-    go : (r : Listing) (after : List ℕ) → ListingPromise block source start (rooms 0) r after → Lent block source start rooms
-    go (Done n) after h = record { chain = done (rooms 0) after n h; lends = refl }
-    go (More n next) after h =
-        let l = left h in
-        let c = rest next l.inside l.fewer in
-        record { chain = more (rooms 0) after n next h c.chain; lends = (refl, c.lends) }
-    go (Refused reason place) after h = absurd (not_refused v w start inside (rooms 0) (above 0) (Refused reason place) after h (number reason) place refl)
+    go : (r : Result Listing Refusal) (after : List ℕ) → ListingPromise block source start (rooms 0) r after → Lent block source start rooms
+    go (Ok listing) after h = on listing.count listing.next h
+      where
+        on : (n : ℕ) (next : Option·code RunCell) → ListingPromise block source start (rooms 0) (Ok (record { count = n; next = next })) after → Lent block source start rooms
+        on n None h = record { chain = done (rooms 0) after n h; lends = refl }
+        on n (Some next) h =
+            let l = left h in
+            let c = rest next l.inside l.fewer in
+            record { chain = more (rooms 0) after n next h c.chain; lends = (refl, c.lends) }
+    go (Err refusal) after h = absurd (not_refused v w start inside (rooms 0) (above 0) (Err refusal) after h (number refusal.reason) refusal.place refl)
 
 -- m is no less than the number of hits that are left
 lent_bounded : {block : Run} {source : Source} → ValidRun block → ValidSource source → (m : ℕ) (start : RunCell) → start.0 < cells_of block → length (hits_from block source start.0) ≤ m → (rooms : ℕ → List ℕ) → ((k : ℕ) → 1 ≤ length (rooms k)) → Lent block source start rooms

@@ -9,7 +9,7 @@ use lib.ListN.{length, get_or, length-append}
 use Rattle.scope.specs.declared.Run.{Run}
 use Rattle.scope.specs.Run.{ValidRun, lines_of, cells_of}
 use Rattle.scope.proofs.Numbering.{valid_block}
-use Rattle.sources.specs.Entry.{Entry}
+use Rattle.sources.specs.declared.Entry.{Entry}
 use Rattle.map.specs.Sum.{raised}
 use Rattle.map.specs.Promise.{weight_at, added}
 use Rattle.map.proofs.Raised.{raised_append, raised_move}

@@ -3,6 +3,7 @@
 -- reads with the finer table", and a refusal has its place.
 -- That every call ends is what the check of its function says, and no public operation has a `requires`. The rest stands
 -- here, for every input and every outcome that a promise admits. Assumes nothing.
+use Rattle.std.specs.Prelude.{Result, Ok, Err, Option as Option·code}
 use Prim.Native.Nat.{ℕ, ◌≤◌, ◌<◌}
 use native.Mathlib.Omega.{arith}
 use mathlib.Core.Path.{◌≡◌, refl, sym, ap, ap₂, ◌∙◌, subst}
@@ -18,10 +19,12 @@ use Rattle.scope.specs.declared.Source.{Source}
 use Rattle.scope.specs.declared.RunCell.{RunCell}
 use Rattle.scope.specs.Run.{ValidRun, ValidSource, ceiling, cells_of}
 use Rattle.scope.specs.Hit.{hits_from}
-use Rattle.scope.specs.Refusal.{Complaint, complaint, number}
-use Rattle.scope.specs.Reply.{Said, refused, answered}
-use Rattle.sources.specs.Entry.{Entry, entries_of}
+use Rattle.scope.specs.declared.Refusal.{Refusal}
 use Rattle.scope.specs.declared.Reason.{Reason}
+use Rattle.scope.specs.Refusal.{complaint, number}
+use Rattle.scope.specs.Reply.{Said, refused, answered}
+use Rattle.sources.specs.declared.Entry.{Entry}
+use Rattle.sources.specs.Entry.{entries_of}
 use Rattle.scope.specs.declared.Place.{Place}
 use Rattle.scope.proofs.Judged.{refused_same, sound, both}
 use Rattle.scope.proofs.Limits.{passes_when, passes_first, passes_then, valid_run, valid_run_passes, valid_source, valid_source_passes}
@@ -30,29 +33,22 @@ use Rattle.sources.proofs.Entries.{entries_of_lem, one_length, valid_entries, va
 use Rattle.vectors.specs.declared.Steps.{Steps}
 use Rattle.vectors.specs.Vectors.{Values}
 use Rattle.vectors.specs.Promise.{vectors_tests, says_vectors, Admits, VectorsPromise}
-use Rattle.hits.specs.declared.FirstHit.{FirstHit}
 use Rattle.hits.specs.declared.Listing.{Listing}
 use Rattle.hits.specs.Promise.{first_hit_tests, says_first_hit, says_listing, first, listed, written, FirstHitPromise, ListingPromise}
-use Rattle.map.specs.declared.Mapped.{Mapped}
 use Rattle.map.specs.Promise.{map_tests, says_map, MapCallAt}
 use Rattle.blanking.specs.declared.Guard.{Guard}
-use Rattle.blanking.specs.declared.Blanking.{Blanking}
 use Rattle.blanking.specs.Promise.{says_blanking, BlankingPromise}
 use Rattle.blanking.specs.Promise as Blanked
 use Rattle.blanking.specs.Table.{BadGuard, HoldsFewer, blanking_table}
 use Rattle.blanking.proofs.Guarding.{blanked_stretches}
 use Rattle.blanking.proofs.Table.{blanking_renders}
-use Rattle.saved.specs.declared.Saved.{Saved}
-use Rattle.saved.specs.declared.Loaded.{Loaded}
 use Rattle.saved.specs.File.{file_of, run_of, map_of}
 use Rattle.saved.specs.Promise.{says_saving, says_reading, SavingPromise, ReadingPromise}
 use Rattle.scope.proofs.Differs.{agrees, same}
-use Rattle.text.specs.declared.Answer.TheVariants.{Refused}
 use Rattle.text.specs.declared.Input.{Input}
 use Rattle.words.specs.Line.{line}
 use Rattle.text.specs.Form.{Content, Spells}
-use Rattle.rooms.specs.Lists.{zeros, padded}
-use Rattle.text.specs.Promise.{most_sources, most_cells, Reads, reply_to, handed, refusal, says_text, TextPromise}
+use Rattle.text.specs.Promise.{most_sources, most_cells, Reads, reply_to, handed, says_text, TextPromise, sources_of}
 use Rattle.text.proofs.Unique.{spells_unique}
 use Rattle.report.specs.declared.Output.{Output}
 use Rattle.report.specs.Report.{refusal_report, run_report, whole_report, printed, report_of}
@@ -82,7 +78,7 @@ pub vectors_refused : (p r I : ℕ) (steps : Steps) → VectorsPromise p r I ste
 unfolding VectorsPromise
 vectors_refused p r I steps h n place = Iff.trans (admitted (complaint (vectors_tests p r I)) (says_vectors steps) refl h) ((vectors_renders p r I).fails n place)
   where
-    admitted : (o : Option Complaint) (said : Said Values) → complaint (vectors_tests p r I) ≡ o → Admits o p r I said → (said ≡ refused n place) ↔ FailsAs (vectors_tests p r I) n place
+    admitted : (o : Option Refusal) (said : Said Values) → complaint (vectors_tests p r I) ≡ o → Admits o p r I said → (said ≡ refused n place) ↔ FailsAs (vectors_tests p r I) n place
     admitted none (answered values) i h = (λ e. absurd (let z : ◌≡◌ {A = ℕ} 0 1 = cc in omega arith), λ f. absurd (let k = sym i ∙ f.fails.is in let z : ◌≡◌ {A = ℕ} 0 1 = cc in omega arith))
     admitted none (refused m other) i h = absurd h
     admitted (some c) said i h =
@@ -93,11 +89,11 @@ vectors_refused p r I steps h n place = Iff.trans (admitted (complaint (vectors_
 
 module _ (run : Run) (source : Source) (start : RunCell) where
   -- A reply of the first-hit call reads "refused n" at a place exactly when its table says so. (Nothing is lent.)
-  pub first_hit_refused : (r : FirstHit) → FirstHitPromise run source start r → (n : ℕ) (place : Place) → (says_first_hit r ≡ refused n place) ↔ Says (first_hit_table run source start) n place
+  pub first_hit_refused : (r : Result (Option·code RunCell) Refusal) → FirstHitPromise run source start r → (n : ℕ) (place : Place) → (says_first_hit r ≡ refused n place) ↔ Says (first_hit_table run source start) n place
   unfolding FirstHitPromise
   first_hit_refused r h = exactly (first_hit_renders run source start) (first (hits_from run source start.0)) (says_first_hit r) h
 
-  module _ (room : List ℕ) (r : Listing) (after : List ℕ) (h : ListingPromise run source start room r after) where
+  module _ (room : List ℕ) (r : Result Listing Refusal) (after : List ℕ) (h : ListingPromise run source start room r after) where
     -- A reply of the listing call reads "refused n" at a place exactly when its table says so.
     pub listing_refused : (n : ℕ) (place : Place) → (says_listing r ≡ refused n place) ↔ Says (listing_table run source start room) n place
     listing_refused = exactly (listing_renders run source start room) (listed (hits_from run source start.0) room) (says_listing r) h.says
@@ -108,7 +104,7 @@ module _ (run : Run) (source : Source) (start : RunCell) where
 
 -- ---- map: both calls, whatever new cells each makes
 
-module _ (run : Run) (periods weights phases map : List ℕ) {new : List ℕ} (answer : Mapped) (after : List ℕ) (h : MapCallAt ceiling run periods weights phases map new answer after) where
+module _ (run : Run) (periods weights phases map : List ℕ) {new : List ℕ} (answer : Result (Unit {0}) Refusal) (after : List ℕ) (h : MapCallAt ceiling run periods weights phases map new answer after) where
   -- A reply of a map call reads "refused n" at a place exactly when the table says so.
   pub map_refused : (n : ℕ) (place : Place) → (says_map answer ≡ refused n place) ↔ Says (map_table run periods weights phases map) n place
   map_refused = exactly (map_renders run periods weights phases map) tt (says_map answer) h.says
@@ -119,7 +115,7 @@ module _ (run : Run) (periods weights phases map : List ℕ) {new : List ℕ} (a
 
 -- ---- the blanking list
 
-module _ (run : Run) (map : List ℕ) (threshold : ℕ) (guard : Guard) (room : List ℕ) (answer : Blanking) (after : List ℕ) (h : BlankingPromise run map threshold guard room answer after) where
+module _ (run : Run) (map : List ℕ) (threshold : ℕ) (guard : Guard) (room : List ℕ) (answer : Result ℕ Refusal) (after : List ℕ) (h : BlankingPromise run map threshold guard room answer after) where
   -- A reply of the blanking call reads "refused n" at a place exactly when its table says so.
   pub blanking_refused : (n : ℕ) (place : Place) → (says_blanking answer ≡ refused n place) ↔ Says (blanking_table run map threshold guard room) n place
   blanking_refused = exactly (blanking_renders run map threshold guard room h.are) (length h.stretches) (says_blanking answer) h.says
@@ -130,7 +126,7 @@ module _ (run : Run) (map : List ℕ) (threshold : ℕ) (guard : Guard) (room : 
 
 -- ---- saving and reading
 
-module _ (run : Run) (map room : List ℕ) (answer : Saved) (after : List ℕ) (h : SavingPromise run map room answer after) where
+module _ (run : Run) (map room : List ℕ) (answer : Result (Unit {0}) Refusal) (after : List ℕ) (h : SavingPromise run map room answer after) where
   -- A reply of the saving call reads "refused n" at a place exactly when its table says so.
   pub saving_refused : (n : ℕ) (place : Place) → (says_saving answer ≡ refused n place) ↔ Says (saving_table run map room) n place
   saving_refused = exactly (saving_renders run map room) tt (says_saving answer) h.says
@@ -139,7 +135,7 @@ module _ (run : Run) (map room : List ℕ) (answer : Saved) (after : List ℕ) (
   pub saving_keeps : (n : ℕ) (place : Place) → says_saving answer ≡ refused n place → after ≡ room
   saving_keeps = keeps (saving_renders run map room) tt (says_saving answer) h.says room (file_of run map) after h.stores
 
-module _ (file map : List ℕ) (answer : Loaded) (after : List ℕ) (h : ReadingPromise file map answer after) where
+module _ (file map : List ℕ) (answer : Result Run Refusal) (after : List ℕ) (h : ReadingPromise file map answer after) where
   -- A reply of the reading call reads "refused n" at a place exactly when its table says so.
   pub reading_refused : (n : ℕ) (place : Place) → (says_reading answer ≡ refused n place) ↔ Says (reading_table file map) n place
   reading_refused = exactly (reading_renders file map) (run_of file) (says_reading answer) h.says
@@ -168,26 +164,19 @@ reply_refused text (some content) r n place = (λ k. inr (content, r, told.0 k),
     back (inl (inr k)) = absurd k.1
     back (inr k) = told.1 (subst (λ c. Says (text_table c) n place) (spells_unique k.1 r) k.2)
 
-module _ (text : List ℕ) (input : Input) (h : TextPromise text input) where
+module _ (text : List ℕ) (input : Result Input Refusal) (h : TextPromise text input) where
   -- A reply to a text reads "refused n" at a place exactly when its table says so: 11 exactly when the text has not the form, else
   -- what the table says of the run and the sources in it.
-  pub text_refused : (n : ℕ) (place : Place) → (says_text input.answer ≡ refused n place) ↔ SaysOfText text n place
+  pub text_refused : (n : ℕ) (place : Place) → (says_text input ≡ refused n place) ↔ SaysOfText text n place
   text_refused n place = rw h.says (reply_refused text h.content h.reads n place)
 
-  -- "a refusal carries the reason and, where it concerns a source, that place" (E1), and nothing else: no source goes with it.
-  pub text_refused_alone : (reason : Reason) (place : Place) → input.answer ≡ Refused reason place → input ≡ refusal reason place
-  unfolding padded zeros periods_of weights_of phases_of
-  text_refused_alone reason place answers =
-      let none_handed = go h.content h.says in
-      let counts = h.counts ∙ ap length none_handed in
-      let periods = h.periods ∙ ap (λ es. padded most_sources (periods_of es)) none_handed in
-      let weights = h.weights ∙ ap (λ es. padded most_sources (weights_of es)) none_handed in
-      let phases = h.phases ∙ ap (λ es. padded most_sources (phases_of es)) none_handed in
-      λ i. record { answer = answers i; count = counts i; periods = periods i; weights = weights i; phases = phases i }
+  -- "a refusal carries the reason and, where it concerns a source, that place" (E1), and nothing else: no run and no source goes with it.
+  pub text_refused_alone : (n : ℕ) (place : Place) → says_text input ≡ refused n place → (reason : Reason) × (number reason ≡ n) × (input ≡ Err (record { reason = reason; place = place }))
+  text_refused_alone n place e = alone input e
     where
-      go : (o : Option Content) → says_text input.answer ≡ reply_to o → handed o ≡ []
-      go none e = refl
-      go (some content) e = keeps (text_renders content) content.run (says_text input.answer) e [] content.entries (handed (some content)) refl (number reason) place (ap says_text answers)
+      alone : (reply : Result Input Refusal) → says_text reply ≡ refused n place → (reason : Reason) × (number reason ≡ n) × (reply ≡ Err (record { reason = reason; place = place }))
+      alone (Ok handed_out) s = absurd (let z : ◌≡◌ {A = ℕ} 0 1 = cc in omega arith)
+      alone (Err refusal) s = let same = refused_same s in (refusal.reason, same.0, ap (λ p. Err (record { reason = refusal.reason; place = p })) same.1)
 
 -- ---- the report on a text
 
@@ -270,7 +259,7 @@ entries_at_fault entries n place = rw (entries_of_lem entries) at (sources_at_fa
 
 -- Where the run and the lengths of the lists are in order, a map call reads "refused n" at a place, n being no 9, exactly if a source
 -- is so at fault: then n is 4, 7 or 22, and the place is that source's.
-pub map_at_fault : (run : Run) (periods weights phases map : List ℕ) {new : List ℕ} (answer : Mapped) (after : List ℕ) → MapCallAt ceiling run periods weights phases map new answer after → Silent (run_table run) → OneLength periods weights phases → (n : ℕ) (place : Place) → n ≢ 9 → (says_map answer ≡ refused n place) ↔ AtFault periods weights phases n place
+pub map_at_fault : (run : Run) (periods weights phases map : List ℕ) {new : List ℕ} (answer : Result (Unit {0}) Refusal) (after : List ℕ) → MapCallAt ceiling run periods weights phases map new answer after → Silent (run_table run) → OneLength periods weights phases → (n : ℕ) (place : Place) → n ≢ 9 → (says_map answer ≡ refused n place) ↔ AtFault periods weights phases n place
 map_at_fault run periods weights phases map answer after h fine equal n place other = Iff.trans (map_refused run periods weights phases map answer after h n place) (Iff.trans (to, from) (sources_at_fault periods weights phases equal n place))
   where
     sources : List Row
@@ -328,7 +317,7 @@ says_at_fault text content spells fine few small n place = Iff.trans (to, from) 
     from s = inr (content, spells, (says_split (run_table content.run) many n place).1 (inr (fine, inr (few_enough, s))))
 
 module _ (text : List ℕ) (content : Content) (spells : Spells text content) (fine : Silent (run_table content.run)) (few : length content.entries ≤ most_sources) (small : cells_of content.run ≤ most_cells) where
-  pub text_at_fault : (input : Input) → TextPromise text input → (n : ℕ) (place : Place) → (says_text input.answer ≡ refused n place) ↔ AtFault (periods_of content.entries) (weights_of content.entries) (phases_of content.entries) n place
+  pub text_at_fault : (input : Result Input Refusal) → TextPromise text input → (n : ℕ) (place : Place) → (says_text input ≡ refused n place) ↔ AtFault (periods_of content.entries) (weights_of content.entries) (phases_of content.entries) n place
   text_at_fault input h n place = Iff.trans (text_refused text input h n place) (says_at_fault text content spells fine few small n place)
 
   -- And of what is printed of it.

@@ -14,36 +14,25 @@ use Rattle.scope.specs.Run.{ceiling}
 use Rattle.scope.specs.declared.Source.{Source}
 use Rattle.scope.specs.declared.RunCell.{RunCell}
 use Rattle.scope.specs.declared.Reason.{Reason}
+use Rattle.scope.specs.declared.Refusal.{Refusal}
+use Rattle.std.specs.Prelude.{Option, Some, None, Result, Ok, Err}
 use Rattle.scope.specs.declared.Place.{Place}
 use Rattle.scope.specs.declared.Place.TheVariants.{Nowhere, AtSource}
 use Rattle.scope.specs.Reply.{Said, refused, answered}
 use Rattle.scope.proofs.Judged.{refused_same}
 use Rattle.vectors.specs.declared.Steps.{Steps}
-use Rattle.vectors.specs.declared.Steps.TheVariants.{Pair, Single, Refused as Refused·steps}
+use Rattle.vectors.specs.declared.Steps.TheVariants.{Pair, Single, Refused}
 use Rattle.vectors.specs.Promise.{says_vectors, VectorsPromise}
-use Rattle.hits.specs.declared.FirstHit.{FirstHit}
-use Rattle.hits.specs.declared.FirstHit.TheVariants.{At, Nothing, Refused as Refused·first}
 use Rattle.hits.specs.declared.Listing.{Listing}
-use Rattle.hits.specs.declared.Listing.TheVariants.{Done as Done·listing, More, Refused as Refused·listing}
 use Rattle.hits.specs.Promise.{says_first_hit, says_listing, FirstHitPromise, ListingPromise}
-use Rattle.map.specs.declared.Mapped.{Mapped}
-use Rattle.map.specs.declared.Mapped.TheVariants.{Done as Done·mapped, Refused as Refused·mapped}
 use Rattle.map.specs.Promise.{says_map, MapCallAt}
 use Rattle.blanking.specs.declared.Guard.{Guard}
-use Rattle.blanking.specs.declared.Blanking.{Blanking}
-use Rattle.blanking.specs.declared.Blanking.TheVariants.{Done as Done·blanking, Refused as Refused·blanking}
 use Rattle.blanking.specs.Promise.{says_blanking, BlankingPromise}
 use Rattle.blanking.specs.Table.{blanking_table}
 use Rattle.blanking.proofs.Table.{blanking_renders}
-use Rattle.saved.specs.declared.Saved.{Saved}
-use Rattle.saved.specs.declared.Saved.TheVariants.{Done as Done·saved, Refused as Refused·saved}
-use Rattle.saved.specs.declared.Loaded.{Loaded}
-use Rattle.saved.specs.declared.Loaded.TheVariants.{Of, Refused as Refused·loaded}
 use Rattle.saved.specs.Promise.{says_saving, says_reading, SavingPromise, ReadingPromise}
-use Rattle.text.specs.declared.Answer.{Answer}
-use Rattle.text.specs.declared.Answer.TheVariants.{Read, Refused as Refused·text}
 use Rattle.text.specs.declared.Input.{Input}
-use Rattle.text.specs.Promise.{most_sources, refusal, says_text, TextPromise}
+use Rattle.text.specs.Promise.{most_sources, says_text, TextPromise}
 use Rattle.exports.specs.declared.StepsReply.{StepsReply}
 use Rattle.exports.specs.declared.FirstHitReply.{FirstHitReply}
 use Rattle.exports.specs.declared.ListingReply.{ListingReply}
@@ -53,7 +42,7 @@ use Rattle.exports.specs.declared.RunReply.{RunReply}
 use Rattle.exports.specs.declared.TextReply.{TextReply}
 use Rattle.demands.specs.Places.{RightPlace}
 use Rattle.exports.specs.Promise.{Exported}
-use Rattle.exports.specs.Replies.{tell_place, tell_steps, tell_first, tell_listing, tell_mapped, tell_blanking, tell_saved, tell_loaded, tell_answer, tell_text_place, tell_text}
+use Rattle.exports.specs.Replies.{tell_place, tell_steps, tell_first, tell_end, tell_listing, tell_mapped, tell_blanking, tell_saved, tell_loaded, tell_text}
 use Rattle.scope.specs.Table.{Says, PlaceTold, Tells}
 use Rattle.saved.specs.Table.{saving_table, reading_table}
 use Rattle.vectors.specs.Table.{vectors_table}
@@ -66,7 +55,7 @@ use Rattle.hits.proofs.Table.{first_hit_renders, listing_renders}
 use Rattle.map.proofs.Table.{map_renders}
 use Rattle.text.proofs.Table.{text_renders}
 use Rattle.saved.proofs.Table.{saving_renders, reading_renders}
-use Rattle.demands.proofs.Demand1.{vectors_refused, first_hit_refused, listing_refused, listing_keeps, map_refused, map_keeps, blanking_refused, blanking_keeps, saving_refused, saving_keeps, reading_refused, reading_keeps, text_refused, text_refused_alone}
+use Rattle.demands.proofs.Demand1.{vectors_refused, first_hit_refused, listing_refused, listing_keeps, map_refused, map_keeps, blanking_refused, blanking_keeps, saving_refused, saving_keeps, reading_refused, reading_keeps, text_refused}
 use Rattle.demands.proofs.Demand1Places.{said_nowhere, vectors_without, first_hit_without, listing_without, blanking_without, saving_without, reading_without, map_placed, says_placed, vectors_placeless, first_hit_placeless, listing_placeless, blanking_placeless, saving_placeless, reading_placeless}
 
 -- ---- every C function
@@ -131,8 +120,8 @@ module _ {A B S : Type 0} {Promise : A → Type 0} {told : A → B} {answer : B}
       rw (refusal_is, told_place) (numbers_by_table (says e.reply) (exactly e.reply e.promised) some)
 
   -- the reply is a refusal
-  alone : (Refused : Reason → Place → A) → ((reply : A) → Promise reply → (n : ℕ) (place : Place) → says reply ≡ refused n place → (reason : Reason) × (reply ≡ Refused reason place)) → refusal_of answer ≢ 0 → (reason : Reason) × (place : Place) × (answer ≡ told (Refused reason place))
-  alone Refused only some =
+  alone : (refuses : Reason → Place → A) → ((reply : A) → Promise reply → (n : ℕ) (place : Place) → says reply ≡ refused n place → (reason : Reason) × (reply ≡ refuses reason place)) → refusal_of answer ≢ 0 → (reason : Reason) × (place : Place) × (answer ≡ told (refuses reason place))
+  alone refuses only some =
       let said = refused_with some in
       let own = only e.reply e.promised _ said.0 said.1 in
       (own.0, said.0, e.is ∙ ap told own.1)
@@ -157,75 +146,81 @@ right_counted count n (AtSource k) r = r.1
 
 -- ---- the refusal that each answer has, and the one reply that says "refused n"
 
+-- the reply that refuses for this reason, at this place
+abbrev refusing : {A : Type 0} → Reason → Place → Result A Refusal
+refusing reason place = Err (record { reason = reason; place = place })
+
 steps_field : (r : Steps) → (tell_steps r).refusal ≡ refusal_in (says_vectors r)
 steps_field (Pair left right) = refl
 steps_field (Single only) = refl
-steps_field (Refused·steps reason place) = refl
+steps_field (Refused reason place) = refl
 
-steps_only : (r : Steps) (n : ℕ) (place : Place) → says_vectors r ≡ refused n place → (reason : Reason) × (r ≡ Refused·steps reason place)
+steps_only : (r : Steps) (n : ℕ) (place : Place) → says_vectors r ≡ refused n place → (reason : Reason) × (r ≡ Refused reason place)
 steps_only (Pair left right) n place e = absurd (let z : ◌≡◌ {A = ℕ} 0 1 = cc in omega arith)
 steps_only (Single only) n place e = absurd (let z : ◌≡◌ {A = ℕ} 0 1 = cc in omega arith)
-steps_only (Refused·steps reason k) n place e = (reason, ap (Refused·steps reason) (refused_same e).1)
+steps_only (Refused reason k) n place e = (reason, ap (Refused reason) (refused_same e).1)
 
-first_field : (r : FirstHit) → (tell_first r).refusal ≡ refusal_in (says_first_hit r)
-first_field (At cell) = refl
-first_field Nothing = refl
-first_field (Refused·first reason place) = refl
+first_field : (r : Result (Option RunCell) Refusal) → (tell_first r).refusal ≡ refusal_in (says_first_hit r)
+first_field (Ok (Some cell)) = refl
+first_field (Ok None) = refl
+first_field (Err refusal) = refl
 
-first_only : (r : FirstHit) (n : ℕ) (place : Place) → says_first_hit r ≡ refused n place → (reason : Reason) × (r ≡ Refused·first reason place)
-first_only (At cell) n place e = absurd (let z : ◌≡◌ {A = ℕ} 0 1 = cc in omega arith)
-first_only Nothing n place e = absurd (let z : ◌≡◌ {A = ℕ} 0 1 = cc in omega arith)
-first_only (Refused·first reason k) n place e = (reason, ap (Refused·first reason) (refused_same e).1)
+first_only : (r : Result (Option RunCell) Refusal) (n : ℕ) (place : Place) → says_first_hit r ≡ refused n place → (reason : Reason) × (r ≡ refusing reason place)
+first_only (Ok (Some cell)) n place e = absurd (let z : ◌≡◌ {A = ℕ} 0 1 = cc in omega arith)
+first_only (Ok None) n place e = absurd (let z : ◌≡◌ {A = ℕ} 0 1 = cc in omega arith)
+first_only (Err refusal) n place e = (refusal.reason, ap (refusing refusal.reason) (refused_same e).1)
 
-listing_field : (r : Listing) → (tell_listing r).refusal ≡ refusal_in (says_listing r)
-listing_field (Done·listing m) = refl
-listing_field (More m cell) = refl
-listing_field (Refused·listing reason place) = refl
+listing_field : (r : Result Listing Refusal) → (tell_listing r).refusal ≡ refusal_in (says_listing r)
+listing_field (Ok listing) = ended listing.count listing.next
+  where
+    ended : (count : ℕ) (next : Option RunCell) → (tell_end count next).refusal ≡ 0
+    ended count None = refl
+    ended count (Some cell) = refl
+listing_field (Err refusal) = refl
 
-listing_only : (r : Listing) (n : ℕ) (place : Place) → says_listing r ≡ refused n place → (reason : Reason) × (r ≡ Refused·listing reason place)
-listing_only (Done·listing m) n place e = absurd (let z : ◌≡◌ {A = ℕ} 0 1 = cc in omega arith)
-listing_only (More m cell) n place e = absurd (let z : ◌≡◌ {A = ℕ} 0 1 = cc in omega arith)
-listing_only (Refused·listing reason k) n place e = (reason, ap (Refused·listing reason) (refused_same e).1)
+listing_only : (r : Result Listing Refusal) (n : ℕ) (place : Place) → says_listing r ≡ refused n place → (reason : Reason) × (r ≡ refusing reason place)
+listing_only (Ok listing) n place e = absurd (let z : ◌≡◌ {A = ℕ} 0 1 = cc in omega arith)
+listing_only (Err refusal) n place e = (refusal.reason, ap (refusing refusal.reason) (refused_same e).1)
 
-mapped_field : (r : Mapped) → (tell_mapped r).refusal ≡ refusal_in (says_map r)
-mapped_field Done·mapped = refl
-mapped_field (Refused·mapped reason place) = refl
+mapped_field : (r : Result (Unit {0}) Refusal) → (tell_mapped r).refusal ≡ refusal_in (says_map r)
+mapped_field (Ok done) = refl
+mapped_field (Err refusal) = refl
 
-mapped_place : (r : Mapped) → (tell_mapped r).place ≡ place_in (says_map r)
-mapped_place Done·mapped = refl
-mapped_place (Refused·mapped reason place) = refl
+mapped_place : (r : Result (Unit {0}) Refusal) → (tell_mapped r).place ≡ place_in (says_map r)
+mapped_place (Ok done) = refl
+mapped_place (Err refusal) = refl
 
-blanking_field : (r : Blanking) → (tell_blanking r).refusal ≡ refusal_in (says_blanking r)
-blanking_field (Done·blanking m) = refl
-blanking_field (Refused·blanking reason place) = refl
+blanking_field : (r : Result ℕ Refusal) → (tell_blanking r).refusal ≡ refusal_in (says_blanking r)
+blanking_field (Ok count) = refl
+blanking_field (Err refusal) = refl
 
-blanking_only : (r : Blanking) (n : ℕ) (place : Place) → says_blanking r ≡ refused n place → (reason : Reason) × (r ≡ Refused·blanking reason place)
-blanking_only (Done·blanking m) n place e = absurd (let z : ◌≡◌ {A = ℕ} 0 1 = cc in omega arith)
-blanking_only (Refused·blanking reason k) n place e = (reason, ap (Refused·blanking reason) (refused_same e).1)
+blanking_only : (r : Result ℕ Refusal) (n : ℕ) (place : Place) → says_blanking r ≡ refused n place → (reason : Reason) × (r ≡ refusing reason place)
+blanking_only (Ok count) n place e = absurd (let z : ◌≡◌ {A = ℕ} 0 1 = cc in omega arith)
+blanking_only (Err refusal) n place e = (refusal.reason, ap (refusing refusal.reason) (refused_same e).1)
 
-saved_field : (r : Saved) → tell_saved r ≡ refusal_in (says_saving r)
-saved_field Done·saved = refl
-saved_field (Refused·saved reason place) = refl
+saved_field : (r : Result (Unit {0}) Refusal) → tell_saved r ≡ refusal_in (says_saving r)
+saved_field (Ok done) = refl
+saved_field (Err refusal) = refl
 
-loaded_field : (r : Loaded) → (tell_loaded r).refusal ≡ refusal_in (says_reading r)
-loaded_field (Of run) = refl
-loaded_field (Refused·loaded reason place) = refl
+loaded_field : (r : Result Run Refusal) → (tell_loaded r).refusal ≡ refusal_in (says_reading r)
+loaded_field (Ok run) = refl
+loaded_field (Err refusal) = refl
 
-loaded_only : (r : Loaded) (n : ℕ) (place : Place) → says_reading r ≡ refused n place → (reason : Reason) × (r ≡ Refused·loaded reason place)
-loaded_only (Of run) n place e = absurd (let z : ◌≡◌ {A = ℕ} 0 1 = cc in omega arith)
-loaded_only (Refused·loaded reason k) n place e = (reason, ap (Refused·loaded reason) (refused_same e).1)
+loaded_only : (r : Result Run Refusal) (n : ℕ) (place : Place) → says_reading r ≡ refused n place → (reason : Reason) × (r ≡ refusing reason place)
+loaded_only (Ok run) n place e = absurd (let z : ◌≡◌ {A = ℕ} 0 1 = cc in omega arith)
+loaded_only (Err refusal) n place e = (refusal.reason, ap (refusing refusal.reason) (refused_same e).1)
 
-answer_field : (r : Answer) → (tell_answer r).refusal ≡ refusal_in (says_text r)
-answer_field (Read run) = refl
-answer_field (Refused·text reason place) = refl
+text_field : (r : Result Input Refusal) → (tell_text r).run.refusal ≡ refusal_in (says_text r)
+text_field (Ok input) = refl
+text_field (Err refusal) = refl
 
-answer_place : (r : Answer) → tell_text_place r ≡ place_in (says_text r)
-answer_place (Read run) = refl
-answer_place (Refused·text reason place) = refl
+text_place : (r : Result Input Refusal) → (tell_text r).place ≡ place_in (says_text r)
+text_place (Ok input) = refl
+text_place (Err refusal) = refl
 
-answer_only : (r : Answer) (n : ℕ) (place : Place) → says_text r ≡ refused n place → (reason : Reason) × (r ≡ Refused·text reason place)
-answer_only (Read run) n place e = absurd (let z : ◌≡◌ {A = ℕ} 0 1 = cc in omega arith)
-answer_only (Refused·text reason k) n place e = (reason, ap (Refused·text reason) (refused_same e).1)
+text_only : (r : Result Input Refusal) (n : ℕ) (place : Place) → says_text r ≡ refused n place → (reason : Reason) × (r ≡ refusing reason place)
+text_only (Ok input) n place e = absurd (let z : ◌≡◌ {A = ℕ} 0 1 = cc in omega arith)
+text_only (Err refusal) n place e = (refusal.reason, ap (refusing refusal.reason) (refused_same e).1)
 
 -- ---- the nine functions
 
@@ -238,7 +233,7 @@ module _ (p r I : ℕ) {a : StepsReply} (e : Exported (VectorsPromise p r I) tel
 
   pub exported_vectors_alone : a.refusal ≢ 0 → a ≡ record { refusal = a.refusal; vectors = 0; alpha = pos 0; beta = 0; gamma = pos 0; delta = 0 }
   exported_vectors_alone some =
-      let (reason, place, is) = alone e (λ a. a.refusal) says_vectors steps_field Refused·steps (λ s h. steps_only s) some in
+      let (reason, place, is) = alone e (λ a. a.refusal) says_vectors steps_field Refused (λ s h. steps_only s) some in
       rw is refl
 
 module _ (run : Run) (source : Source) (start : RunCell) where
@@ -251,7 +246,7 @@ module _ (run : Run) (source : Source) (start : RunCell) where
 
     pub exported_first_hit_alone : a.refusal ≢ 0 → a ≡ record { refusal = a.refusal; found = 0; cell = 0 }
     exported_first_hit_alone some =
-        let (reason, place, is) = alone e (λ a. a.refusal) says_first_hit first_field Refused·first (λ r h. first_only r) some in
+        let (reason, place, is) = alone e (λ a. a.refusal) says_first_hit first_field refusing (λ r h. first_only r) some in
         rw is refl
 
   -- `zenithgong_list_hits`
@@ -263,7 +258,7 @@ module _ (run : Run) (source : Source) (start : RunCell) where
 
     pub exported_listing_keeps : a.refusal ≢ 0 → (a ≡ record { refusal = a.refusal; more = 0; count = 0; next = 0 }) × (after ≡ room)
     exported_listing_keeps some =
-        let (reason, place, is) = alone e (λ a. a.refusal) says_listing listing_field Refused·listing (λ r h. listing_only r) some in
+        let (reason, place, is) = alone e (λ a. a.refusal) says_listing listing_field refusing (λ r h. listing_only r) some in
         (rw is refl, kept e (λ a. a.refusal) says_listing listing_field (λ r h. listing_keeps run source start room r after h) some)
 
 -- `zenithgong_make_map` and `zenithgong_add_to_map`, whose answer is the refusal and its place
@@ -285,7 +280,7 @@ module _ (run : Run) (map : List ℕ) (threshold : ℕ) (guard : Guard) (room : 
 
   pub exported_blanking_keeps : a.refusal ≢ 0 → (a ≡ record { refusal = a.refusal; count = 0 }) × (after ≡ room)
   exported_blanking_keeps some =
-      let (reason, place, is) = alone e (λ a. a.refusal) says_blanking blanking_field Refused·blanking (λ r h. blanking_only r) some in
+      let (reason, place, is) = alone e (λ a. a.refusal) says_blanking blanking_field refusing (λ r h. blanking_only r) some in
       (rw is refl, kept e (λ a. a.refusal) says_blanking blanking_field (λ r h. blanking_keeps run map threshold guard room r after h) some)
 
 -- `zenithgong_save`, whose answer is the refusal
@@ -307,7 +302,7 @@ module _ (file map : List ℕ) {after : List ℕ} {a : RunReply} (e : Exported (
 
   pub exported_reading_keeps : a.refusal ≢ 0 → (a ≡ record { refusal = a.refusal; window = 0; interval = 0; first = 0; last = 0 }) × (after ≡ map)
   exported_reading_keeps some =
-      let (reason, place, is) = alone e (λ a. a.refusal) says_reading loaded_field Refused·loaded (λ r h. loaded_only r) some in
+      let (reason, place, is) = alone e (λ a. a.refusal) says_reading loaded_field refusing (λ r h. loaded_only r) some in
       (rw is refl, kept e (λ a. a.refusal) says_reading loaded_field (λ r h. reading_keeps file map r after h) some)
 
 -- `zenithgong_read_text`. (Nothing is lent.)
@@ -320,13 +315,10 @@ module _ (text : List ℕ) {a : TextReply} (e : Exported (TextPromise text) tell
   pub exported_text_refused : Tells (SaysOfText text) a.run.refusal a.place
   exported_text_refused =
       let h = e.promised in
-      by_table e (λ a. a.run.refusal) (λ input. says_text input.answer) (λ input. answer_field input.answer) (λ a. a.place) (λ input p. answer_place input.answer) (text_refused text)
+      by_table e (λ a. a.run.refusal) says_text text_field (λ a. a.place) (λ input p. text_place input) (text_refused text)
       (λ n place t. (text_some n place t, right_counted _ n place (says_placed text h.content h.reads n place t)))
 
   pub exported_text_alone : a.run.refusal ≢ 0 → a ≡ record { run = record { refusal = a.run.refusal; window = 0; interval = 0; first = 0; last = 0 }; place = a.place; count = 0; periods = zeros most_sources; weights = zeros most_sources; phases = zeros most_sources }
   exported_text_alone some =
-      let (reason, place, is) = alone e (λ a. a.run.refusal) (λ input. says_text input.answer) (λ input. answer_field input.answer) refusal only some in
+      let (reason, place, is) = alone e (λ a. a.run.refusal) says_text text_field refusing (λ input h. text_only input) some in
       rw is refl
-    where
-      only : (input : Input) → TextPromise text input → (n : ℕ) (place : Place) → says_text input.answer ≡ refused n place → (reason : Reason) × (input ≡ refusal reason place)
-      only input h n place k = let own = answer_only input.answer n place k in (own.0, text_refused_alone text input h own.0 place own.1)

@@ -1,6 +1,8 @@
 -- Request E1: "Where a source in a list is at fault (4 or 7 so far) they also want its place, counted from 1. From then on a refusal
 -- carries the reason and, where it concerns a source, that place". Of every reply that a promise admits: which place its refusal has;
 -- and no two reasons share a number. Assumes nothing.
+use Rattle.std.specs.Prelude.{Result, Option as Option·code}
+use Rattle.scope.specs.declared.Refusal.{Refusal}
 use Prim.Native.Nat.{ℕ, zero, suc, ◌+◌, ◌-◌, ◌*◌, ◌≤◌, ◌<◌}
 use native.Mathlib.Omega.{arith}
 use mathlib.Core.Path.{◌≡◌, refl}
@@ -20,25 +22,21 @@ use Rattle.scope.specs.Reply.{refused}
 use Rattle.scope.specs.Table.{Row, ◌given◌, Says, run_table}
 use Rattle.scope.proofs.Judged as Judged
 use Rattle.scope.proofs.Rendered.{Every, every_append, every_said}
-use Rattle.sources.specs.Entry.{Entry, entries_of}
+use Rattle.sources.specs.declared.Entry.{Entry}
+use Rattle.sources.specs.Entry.{entries_of}
 use Rattle.sources.specs.Table.{sources_table, source_lists_table}
 use Rattle.sources.proofs.Entries.{entries_few}
 use Rattle.vectors.specs.declared.Steps.{Steps}
 use Rattle.vectors.specs.Promise.{says_vectors, VectorsPromise}
-use Rattle.hits.specs.declared.FirstHit.{FirstHit}
 use Rattle.hits.specs.declared.Listing.{Listing}
 use Rattle.hits.specs.Promise.{says_first_hit, says_listing, FirstHitPromise, ListingPromise}
-use Rattle.map.specs.declared.Mapped.{Mapped}
 use Rattle.map.specs.Promise.{says_map, MapCallAt}
 use Rattle.map.specs.Table.{map_table}
 use Rattle.fileblocks.specs.FileBlock.{content_bytes}
 use Rattle.fileblocks.specs.Table.{file_block_table}
 use Rattle.blanking.specs.declared.Guard.{Guard}
-use Rattle.blanking.specs.declared.Blanking.{Blanking}
 use Rattle.blanking.specs.Promise.{says_blanking, BlankingPromise}
 use Rattle.blanking.specs.Table.{blanking_table}
-use Rattle.saved.specs.declared.Saved.{Saved}
-use Rattle.saved.specs.declared.Loaded.{Loaded}
 use Rattle.saved.specs.File.{file_blocks_for, bytes_for, file_block_at, run_of}
 use Rattle.saved.specs.Promise.{says_saving, says_reading, SavingPromise, ReadingPromise}
 use Rattle.saved.specs.Table.{saving_table, later_file_blocks_table, reading_table}
@@ -104,25 +102,25 @@ module _ (p r I : ℕ) (steps : Steps) (h : VectorsPromise p r I steps) where
 
 -- Nor has one of the first-hit call, or of the listing: their source stands in no list.
 module _ (run : Run) (source : Source) (start : RunCell) where
-  module _ (r : FirstHit) (h : FirstHitPromise run source start r) where
+  module _ (r : Result (Option·code RunCell) Refusal) (h : FirstHitPromise run source start r) where
     pub first_hit_placeless : (n : ℕ) (place : Place) → says_first_hit r ≡ refused n place → place ≡ Nowhere
     first_hit_placeless n place e = said_nowhere (first_hit_table run source start) (first_hit_without run source start) n place ((first_hit_refused run source start r h n place).0 e)
 
-  module _ (room : List ℕ) (r : Listing) (after : List ℕ) (h : ListingPromise run source start room r after) where
+  module _ (room : List ℕ) (r : Result Listing Refusal) (after : List ℕ) (h : ListingPromise run source start room r after) where
     pub listing_placeless : (n : ℕ) (place : Place) → says_listing r ≡ refused n place → place ≡ Nowhere
     listing_placeless n place e = said_nowhere (listing_table run source start room) (listing_without run source start room) n place ((listing_refused run source start room r after h n place).0 e)
 
 -- Nor has one of the blanking call.
-module _ (run : Run) (map : List ℕ) (threshold : ℕ) (guard : Guard) (room : List ℕ) (answer : Blanking) (after : List ℕ) (h : BlankingPromise run map threshold guard room answer after) where
+module _ (run : Run) (map : List ℕ) (threshold : ℕ) (guard : Guard) (room : List ℕ) (answer : Result ℕ Refusal) (after : List ℕ) (h : BlankingPromise run map threshold guard room answer after) where
   pub blanking_placeless : (n : ℕ) (place : Place) → says_blanking answer ≡ refused n place → place ≡ Nowhere
   blanking_placeless n place e = said_nowhere (blanking_table run map threshold guard room) (blanking_without run map threshold guard room) n place ((blanking_refused run map threshold guard room answer after h n place).0 e)
 
 -- Nor has one of saving or of reading a file.
-module _ (run : Run) (map room : List ℕ) (answer : Saved) (after : List ℕ) (h : SavingPromise run map room answer after) where
+module _ (run : Run) (map room : List ℕ) (answer : Result (Unit {0}) Refusal) (after : List ℕ) (h : SavingPromise run map room answer after) where
   pub saving_placeless : (n : ℕ) (place : Place) → says_saving answer ≡ refused n place → place ≡ Nowhere
   saving_placeless n place e = said_nowhere (saving_table run map room) (saving_without run map room) n place ((saving_refused run map room answer after h n place).0 e)
 
-module _ (file map : List ℕ) (answer : Loaded) (after : List ℕ) (h : ReadingPromise file map answer after) where
+module _ (file map : List ℕ) (answer : Result Run Refusal) (after : List ℕ) (h : ReadingPromise file map answer after) where
   pub reading_placeless : (n : ℕ) (place : Place) → says_reading answer ≡ refused n place → place ≡ Nowhere
   reading_placeless n place e = said_nowhere (reading_table file map) (reading_without file map) n place ((reading_refused file map answer after h n place).0 e)
 
@@ -165,7 +163,7 @@ text_placed content =
     (no_source count 12 (λ e. omega arith) (λ e. omega arith) (λ e. omega arith), sources_placed count 1 content.entries (omega arith) (omega arith))
 
 -- A refusal of a map call for 4, 7 or 22 has a place between 1 and the length of the list of periods, and no other refusal has one.
-module _ (run : Run) (periods weights phases map : List ℕ) {new : List ℕ} (answer : Mapped) (after : List ℕ) (h : MapCallAt ceiling run periods weights phases map new answer after) where
+module _ (run : Run) (periods weights phases map : List ℕ) {new : List ℕ} (answer : Result (Unit {0}) Refusal) (after : List ℕ) (h : MapCallAt ceiling run periods weights phases map new answer after) where
   pub map_place : (n : ℕ) (place : Place) → says_map answer ≡ refused n place → RightPlace (length periods) n place
   map_place n place e = every_said (RightPlace (length periods)) (map_table run periods weights phases map) (map_placed run periods weights phases map) n place ((map_refused run periods weights phases map answer after h n place).0 e)
 
@@ -177,8 +175,8 @@ says_placed text (some content) r n place (inr s) =
     every_said (RightPlace (length content.entries)) (text_table content) (text_placed content) n place (rw (spells_unique s.1 r) at s.2)
 
 -- The same of a text, whose `src` lines are counted.
-module _ (text : List ℕ) (input : Input) (h : TextPromise text input) where
-  pub text_place : (n : ℕ) (place : Place) → says_text input.answer ≡ refused n place → RightPlace (src_count h.content) n place
+module _ (text : List ℕ) (input : Result Input Refusal) (h : TextPromise text input) where
+  pub text_place : (n : ℕ) (place : Place) → says_text input ≡ refused n place → RightPlace (src_count h.content) n place
   text_place n place e = says_placed text h.content h.reads n place ((text_refused text input h n place).0 e)
 
 -- And of what is printed of it.

@@ -1,5 +1,7 @@
 -- Demand 2: "Asked for the first hit from a cell on, the program gives it, and says there is none exactly when there is
 -- none." And how 01 says that the hits of a source follow each other. Assumes nothing.
+use Rattle.std.specs.Prelude.{Result, Option}
+use Rattle.scope.specs.declared.Refusal.{Refusal}
 use Prim.Native.Nat.{ℕ, ◌+◌, ◌*◌, ◌/◌, ◌%◌}
 use native.Mathlib.Nat.{div-add-mod'}
 use native.Mathlib.Omega.{arith}
@@ -17,7 +19,6 @@ use Rattle.scope.proofs.Numbering.{offset_distance}
 use Rattle.scope.proofs.Hits.{On, hits_on, on_period, on_gap}
 use Rattle.vectors.specs.declared.Vector.{Vector}
 use Rattle.vectors.specs.Vectors.{IsPair, IsSingle}
-use Rattle.hits.specs.declared.FirstHit.{FirstHit}
 use Rattle.hits.specs.Promise.{first, says_first_hit, FirstHitPromise}
 use Rattle.hits.specs.Proposition.{InWindow, NextHit, Cases}
 use Rattle.hits.proofs.Proposition as Proposition
@@ -27,7 +28,7 @@ use Rattle.demands.specs.FirstHit.{HitsCell, IsFirstHit, NoHitFrom, NextOnLine}
 use Rattle.hits.proofs.Table.{first_hit_renders}
 use Rattle.demands.proofs.FirstHits.{first_is, none_is}
 
-module _ (run : Run) (source : Source) (start : RunCell) (r : FirstHit) (fine : Silent (first_hit_table run source start)) (h : FirstHitPromise run source start r) where
+module _ (run : Run) (source : Source) (start : RunCell) (r : Result (Option RunCell) Refusal) (fine : Silent (first_hit_table run source start)) (h : FirstHitPromise run source start r) where
   reads : says_first_hit r ≡ answered (first (hits_from run source start.0))
   unfolding FirstHitPromise
   reads = h ∙ rw ((first_hit_renders run source start).passes.1 fine).is

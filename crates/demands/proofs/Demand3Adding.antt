@@ -2,6 +2,8 @@
 -- the one before left it: every cell then holds what it held before plus the weights of all its hits, or 255 if that is more."
 -- Over the promise of the adding call alone, for every cut, every history of calls and every ceiling. Kept from call to call: the maps
 -- are as long as their blocks, and what is still to be added is within the limits. Assumes nothing.
+use Rattle.std.specs.Prelude.{Result, Ok}
+use Rattle.scope.specs.declared.Refusal.{Refusal}
 use Prim.Native.Nat.{ℕ, zero, suc, ◌+◌, ◌≤◌, ◌<◌}
 use native.Mathlib.Nat.{zero-add}
 use native.Mathlib.Decide.{ℕ_discrete}
@@ -16,11 +18,9 @@ use borrow.Author.Tests.{eq-eqb, ne_eqb}
 use Rattle.scope.specs.declared.Run.{Run}
 use Rattle.scope.specs.Run.{ValidRun, ceiling, UpTo, cells_of}
 use Rattle.scope.specs.Hit.{is_hit}
-use Rattle.sources.specs.Entry.{Entry}
+use Rattle.sources.specs.declared.Entry.{Entry}
 use Rattle.scope.proofs.Judged.{Passes}
 use Rattle.scope.proofs.Hits.{hit_hits}
-use Rattle.map.specs.declared.Mapped.{Mapped}
-use Rattle.map.specs.declared.Mapped.TheVariants.{Done}
 use Rattle.map.specs.Sum.{capped}
 use Rattle.map.specs.Promise.{map_tests, weight_at, added, AddingPromiseAt}
 use Rattle.sources.specs.Lists.{periods_of, weights_of, phases_of, ValidEntries}
@@ -83,7 +83,7 @@ module _ (c : ℕ) where
       call_passes c block (periods_of entries) (weights_of entries) (phases_of entries) map v lists e
 
   -- such a call, if it keeps its promise, is not refused and adds its entries
-  call_adds : {block : Run} (entries : List Entry) {map : List ℕ} {answer : Mapped} {after : List ℕ} → ValidRun block → ValidEntries c entries → length map ≡ cells_of block → AddingPromiseAt c block (periods_of entries) (weights_of entries) (phases_of entries) map answer after → (answer ≡ Done) × (after ≡ added c block entries map)
+  call_adds : {block : Run} (entries : List Entry) {map : List ℕ} {answer : Result (Unit {0}) Refusal} {after : List ℕ} → ValidRun block → ValidEntries c entries → length map ≡ cells_of block → AddingPromiseAt c block (periods_of entries) (weights_of entries) (phases_of entries) map answer after → (answer ≡ Ok tt) × (after ≡ added c block entries map)
   call_adds {block} entries {map} {answer} {after} v w e m =
       let got = stores_new (entries_pass entries map v w e) m in
       (got.0, got.1 ∙ ap (λ (l : List Entry). added c block l map) (entries_of_lem entries))
@@ -215,7 +215,7 @@ module _ (c : ℕ) where
 
   -- A call on the maps as they are, with the outcome that its promise admits.
   abbrev call_on : Run → List Run → List Entry → List (List ℕ) → ℕ → Call
-  call_on run blocks sources maps k = record { block = k; entries = sources; answer = Done; after = added c (get_or blocks k run) sources (get_or maps k []) }
+  call_on run blocks sources maps k = record { block = k; entries = sources; answer = Ok tt; after = added c (get_or blocks k run) sources (get_or maps k []) }
 
   -- The calls on the first n blocks, from the last of them down.
   abbrev calls_on : Run → List Run → List Entry → List (List ℕ) → ℕ → List Call

@@ -2,6 +2,8 @@
 -- list each source from the block's cell 0 with any room above nothing, going on where the listing stopped. Joined in line
 -- order, the lists hold every hit of that source in the run once, none besides, by line and then by offset."
 -- Assumes nothing.
+use Rattle.std.specs.Prelude.{Result, Ok, Err, Some, None, Option}
+use Rattle.scope.specs.declared.Refusal.{Refusal}
 use Prim.Native.Nat.{ℕ, suc, ◌≤◌, ◌<◌, max}
 use native.Mathlib.Omega.{arith}
 use mathlib.Core.Path.{◌≡◌, refl, sym, ap, ap₂, ◌∙◌, subst}
@@ -19,10 +21,9 @@ use Rattle.scope.proofs.Limits.{window_cells}
 use Rattle.scope.proofs.Numbering.{cell_order, number_cell}
 use Rattle.scope.proofs.Hits.{Rising, hit_hits, hits_member, hits_rising, rising_same}
 use Rattle.hits.specs.declared.Listing.{Listing}
-use Rattle.hits.specs.declared.Listing.TheVariants.{Done, More, Refused}
 use Rattle.hits.specs.Promise.{ListingPromise}
 use Rattle.demands.specs.Cut.{Cut}
-use Rattle.demands.specs.Listing.{Chain, run_cells, list_of, calls_of, Mores, Lends, Answered, Listings, LendsEach, joined, InOrder, EveryHitOnce}
+use Rattle.demands.specs.Listing.{GoesOnIn, Chain, run_cells, list_of, calls_of, Mores, Lends, Answered, Listings, LendsEach, joined, InOrder, EveryHitOnce}
 use Rattle.demands.proofs.CellLists.{numbers_of, turned, numbered, cell_member, number_member}
 use Rattle.demands.proofs.Chains.{chain_lists, few_calls, few_mores, goes_inside, not_refused, lent_exists}
 use Rattle.demands.proofs.Cuts.{cut_valid}
@@ -129,10 +130,13 @@ mores_end block source start calls mores = few_mores mores
 
 -- No call of such a chain is refused, whichever outcome the promise admits: the first starts at a cell of the block, and where
 -- a call says "more from", the next one does.
-pub call_answered : (block : Run) (source : Source) → ValidRun block → ValidSource source → (start : RunCell) → start.0 < cells_of block → (room : List ℕ) → 1 ≤ length room → (r : Listing) (after : List ℕ) → ListingPromise block source start room r after → Answered block r
-call_answered block source v w start inside room lent (Done n) after h = tt
-call_answered block source v w start inside room lent (More n next) after h = goes_inside h
-call_answered block source v w start inside room lent (Refused reason place) after h = not_refused v w start inside room lent (Refused reason place) after h (number reason) place refl
+pub call_answered : (block : Run) (source : Source) → ValidRun block → ValidSource source → (start : RunCell) → start.0 < cells_of block → (room : List ℕ) → 1 ≤ length room → (r : Result Listing Refusal) (after : List ℕ) → ListingPromise block source start room r after → Answered block r
+call_answered block source v w start inside room lent (Ok listing) after h = on listing.count listing.next h
+  where
+    on : (n : ℕ) (next : Option RunCell) → ListingPromise block source start room (Ok (record { count = n; next = next })) after → GoesOnIn block next
+    on n None h = tt
+    on n (Some next) h = goes_inside h
+call_answered block source v w start inside room lent (Err refusal) after h = not_refused v w start inside room lent (Err refusal) after h (number refusal.reason) refusal.place refl
 
 -- And so there are lists for every cut of a valid run, whatever rooms above nothing: to each block's calls its own supply is lent.
 pub listings_exist : (run : Run) (source : Source) → ValidRun run → ValidSource source → (blocks : List Run) → Cut run blocks → (rooms : Run → ℕ → List ℕ) → ((block : Run) → Memᴰ block blocks → (k : ℕ) → 1 ≤ length (rooms block k)) → (lists : Listings source blocks) × LendsEach rooms source blocks lists

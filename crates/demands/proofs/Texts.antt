@@ -1,6 +1,8 @@
 -- Document 01, "The list program", and request E5: "the text line becomes `src period weight phase`, and a line without it means phase 0".
 -- Which texts are not refused 11, what they say, and which are accepted; then the whole report on what they say is printed.
 -- Assumes nothing.
+use Rattle.std.specs.Prelude.{Result}
+use Rattle.scope.specs.declared.Refusal.{Refusal}
 use Prim.Native.Nat.{ℕ, suc, ◌<◌}
 use native.Mathlib.Decide.{dec_lt}
 use native.Mathlib.Omega.{arith}
@@ -14,15 +16,14 @@ use lib.Seq.{take_all}
 use borrow.Author.Tests.{ltb-false, le-ltb}
 use Rattle.scope.specs.declared.Place.{Place}
 use Rattle.scope.specs.declared.Place.TheVariants.{Nowhere}
-use Rattle.scope.specs.Reply.{refused}
+use Rattle.scope.specs.Reply.{refused, answered}
 use Rattle.scope.specs.Run.{ceiling, cells_of}
 use Rattle.scope.proofs.Rendered.{Every, every_said}
-use Rattle.sources.specs.Entry.{Entry}
+use Rattle.sources.specs.declared.Entry.{Entry}
 use Rattle.scope.proofs.Judged.{Passes, sound, both, grant_reply, grant_stored}
 use Rattle.scope.proofs.Limits.{passes_when, passes_first, passes_then, valid_run, valid_run_passes}
 use Rattle.sources.specs.Table.{sources_table}
 use Rattle.sources.proofs.Entries.{valid_entries, valid_entries_pass}
-use Rattle.text.specs.declared.Answer.TheVariants.{Read}
 use Rattle.text.specs.declared.Input.{Input}
 use Rattle.text.specs.Form.{sources_meant, Content, Spells}
 use Rattle.text.specs.Table.{text_table, SaysOfText}
@@ -65,7 +66,7 @@ silent_11 text = let told = Says.reads_exists text in (go told.0 told.1, λ form
 
 -- "Anything else in the text is refused 11": a text is not refused 11 exactly if it has at most 4,096 bytes, one `run` line, then `src`
 -- lines, each in either spelling.
-pub not_refused_11 : (text : List ℕ) (input : Input) → TextPromise text input → ((place : Place) → says_text input.answer ≡ refused 11 place → ⊥) ↔ HasForm text
+pub not_refused_11 : (text : List ℕ) (input : Result Input Refusal) → TextPromise text input → ((place : Place) → says_text input ≡ refused 11 place → ⊥) ↔ HasForm text
 not_refused_11 text input h =
     let says = text_refused text input h 11 in
     Iff.trans (λ f place s. f place ((says place).1 s), λ f place e. f place ((says place).0 e)) (silent_11 text)
@@ -105,7 +106,7 @@ within {content = content} spells = (
 )
 
 -- A text is accepted with a run and sources exactly if that is what it says and they are within the limits.
-pub text_accepted : (text : List ℕ) (input : Input) → TextPromise text input → (content : Content) → ((input.answer ≡ Read content.run) × (sources_of input ≡ content.entries)) ↔ (Spells text content × ValidContent content)
+pub text_accepted : (text : List ℕ) (input : Result Input Refusal) → TextPromise text input → (content : Content) → ((says_text input ≡ answered content.run) × (sources_of input ≡ content.entries)) ↔ (Spells text content × ValidContent content)
 text_accepted text input h content =
     Iff.trans (Unique.accepted text input h content) (λ s. (s.0, (within s.0).0 s.1), λ s. (s.0, (within s.0).1 s.1))
 

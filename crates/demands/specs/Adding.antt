@@ -1,15 +1,14 @@
 -- Demand 3: "Add the sources to the blocks in any order, each source once to each block, each call finding the map as the one
 -- before left it": the blocks' maps, and a history of calls. At any ceiling c: demand 3 is at `ceiling`,
 -- where the promise that each call keeps is `AddingPromise`.
-use Rattle.std.specs.Prelude.{ℕ, ◌+◌, ◌<◌, ◌≡◌, cond, eqb, length, get_or, set}
+use Rattle.scope.specs.declared.Refusal.{Refusal}
+use Rattle.std.specs.Prelude.{ℕ, ◌+◌, ◌<◌, ◌≡◌, cond, eqb, length, get_or, set, Result, Ok}
 use mathlib.Core.List.{List, [], ◌∷◌, ◌++◌, Permᴰ}
 use Rattle.scope.specs.declared.Run.{Run}
 use Rattle.scope.specs.declared.RunCell.{RunCell}
 use Rattle.scope.specs.declared.BlockCell.{BlockCell}
 use Rattle.scope.specs.Run.{ValidRun, UpTo, cells_of, to_run}
-use Rattle.sources.specs.Entry.{Entry}
-use Rattle.map.specs.declared.Mapped.{Mapped}
-use Rattle.map.specs.declared.Mapped.TheVariants.{Done}
+use Rattle.sources.specs.declared.Entry.{Entry}
 use Rattle.map.specs.Sum.{capped}
 use Rattle.map.specs.Promise.{weight_at, added, AddingPromiseAt}
 use Rattle.sources.specs.Lists.{periods_of, weights_of, phases_of, ValidEntries}
@@ -31,7 +30,7 @@ Maps (block ∷ blocks) (map ∷ maps) = (length map ≡ cells_of block) × Maps
 pub record Call : Type 0 where
   pub block : ℕ
   pub entries : List Entry
-  pub answer : Mapped
+  pub answer : Result (Unit {0}) Refusal
   pub after : List ℕ
 
 -- Every call keeps its promise, "each call finding the map as the one before left it".
@@ -55,7 +54,7 @@ added_to k (call ∷ calls) = cond (eqb call.block k) (call.entries ++ added_to 
 -- No call is refused.
 abbrev pub NoneRefused : List Call → Type 0
 NoneRefused [] = Unit {0}
-NoneRefused (call ∷ calls) = (call.answer ≡ Done) × NoneRefused calls
+NoneRefused (call ∷ calls) = (call.answer ≡ Ok tt) × NoneRefused calls
 
 -- A cut of a run, sources within the limits, for each block a map with no cell above the ceiling, and calls that add each source
 -- once to each block.

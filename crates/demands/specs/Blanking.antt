@@ -1,8 +1,7 @@
 -- Request E3 over a cut of a run: the blanking lists of the blocks, each of its part of the run's map.
-use Rattle.std.specs.Prelude.{ℕ, ◌⊎◌, List, [], ◌∷◌, ◌++◌}
+use Rattle.std.specs.Prelude.{ℕ, ◌⊎◌, List, [], ◌∷◌, ◌++◌, Ok}
 use Rattle.scope.specs.declared.Run.{Run}
 use Rattle.blanking.specs.declared.Guard.{Guard}
-use Rattle.blanking.specs.declared.Blanking.TheVariants.{Done}
 use Rattle.blanking.specs.Promise.{BlankingPromise}
 use Rattle.blanking.specs.Meaning.{ListedIn}
 
@@ -19,7 +18,7 @@ BlockLists threshold guard [] [] = Unit {0}
 BlockLists threshold guard [] (list ∷ lists) = ⊥
 BlockLists threshold guard (block ∷ blocks) [] = ⊥
 BlockLists threshold guard (block ∷ blocks) (list ∷ lists) =
-    BlankingPromise block list.map threshold guard list.room (Done list.count) list.after × BlockLists threshold guard blocks lists
+    BlankingPromise block list.map threshold guard list.room (Ok list.count) list.after × BlockLists threshold guard blocks lists
 
 -- The parts of the map, joined in line order.
 abbrev pub parts_of : List BlockList → List ℕ

@@ -1,28 +1,40 @@
 -- Demand 3: the listing of a source in each block of a cut, call after call, and the lists joined.
-use Rattle.std.specs.Prelude.{ℕ, zero, suc, ◌<◌, ◌≡◌, ◌↔◌, take}
+use Rattle.std.specs.Prelude.{ℕ, zero, suc, ◌<◌, ◌≡◌, ◌↔◌, take, Option, Some, None, Result, Ok, Err}
 use mathlib.Core.List.{List, [], ◌∷◌, ◌++◌, map, Memᴰ}
 use Rattle.scope.specs.declared.Run.{Run}
 use Rattle.scope.specs.declared.Source.{Source}
 use Rattle.scope.specs.declared.RunCell.{RunCell}
 use Rattle.scope.specs.declared.BlockCell.{BlockCell}
+use Rattle.scope.specs.declared.Refusal.{Refusal}
 use Rattle.scope.specs.Run.{cells_of, Before, to_run}
 use Rattle.hits.specs.declared.Listing.{Listing}
-use Rattle.hits.specs.declared.Listing.TheVariants.{Done, More, Refused}
 use Rattle.hits.specs.Promise.{ListingPromise}
 use Rattle.demands.specs.FirstHit.{HitsCell}
+
+-- The reply "done", with so many hits written.
+abbrev pub all_listed : ℕ → Result Listing Refusal
+all_listed n = Ok (record { count = n; next = None })
+
+-- The reply "more from x", x being the next hit.
+abbrev pub more_from : ℕ → RunCell → Result Listing Refusal
+more_from n next = Ok (record { count = n; next = Some next })
 
 -- "list each source .. with any room above nothing, going on where the listing stopped": calls from a cell on, each with
 -- whatever room and any outcome that the promise admits. The last says "done", each other "more from" the start of the next.
 -- (A room of nothing is refused and stands in no chain.)
 pub data Chain (block : Run) (source : Source) : RunCell → Type 0 where
-  done : {start : RunCell} (room after : List ℕ) (n : ℕ) → ListingPromise block source start room (Done n) after → Chain block source start
-  more : {start : RunCell} (room after : List ℕ) (n : ℕ) (next : RunCell) → ListingPromise block source start room (More n next) after → Chain block source next → Chain block source start
+  done : {start : RunCell} (room after : List ℕ) (n : ℕ) → ListingPromise block source start room (all_listed n) after → Chain block source start
+  more : {start : RunCell} (room after : List ℕ) (n : ℕ) (next : RunCell) → ListingPromise block source start room (more_from n next) after → Chain block source next → Chain block source start
+
+-- Where a cell is named to go on from, that is a cell of the block.
+abbrev pub GoesOnIn : Run → Option RunCell → Type 0
+GoesOnIn block None = Unit {0}
+GoesOnIn block (Some next) = next.0 < cells_of block
 
 -- A reply that is no refusal. Where it says "more from" a cell, that is a cell of the block.
-abbrev pub Answered : Run → Listing → Type 0
-Answered block (Done n) = Unit {0}
-Answered block (More n next) = next.0 < cells_of block
-Answered block (Refused reason place) = ⊥
+abbrev pub Answered : Run → Result Listing Refusal → Type 0
+Answered block (Ok listing) = GoesOnIn block listing.next
+Answered block (Err refusal) = ⊥
 
 -- Numbers as cells of a block.
 abbrev pub block_cells : List ℕ → List BlockCell
@@ -46,7 +58,7 @@ calls_of (more room after n next promise rest) = suc (calls_of rest)
 -- room, that all say "more". Whether a later one says "done" is left open.
 pub data Mores (block : Run) (source : Source) : RunCell → ℕ → Type 0 where
   none_yet : {start : RunCell} → Mores block source start zero
-  one_more : {start : RunCell} {calls : ℕ} (room after : List ℕ) (n : ℕ) (next : RunCell) → ListingPromise block source start room (More n next) after → Mores block source next calls → Mores block source start (suc calls)
+  one_more : {start : RunCell} {calls : ℕ} (room after : List ℕ) (n : ℕ) (next : RunCell) → ListingPromise block source start room (more_from n next) after → Mores block source next calls → Mores block source start (suc calls)
 
 -- The rooms are those of a supply, one after the other.
 abbrev pub Lends : {block : Run} {source : Source} {start : RunCell} → (ℕ → List ℕ) → Chain block source start → Type 0

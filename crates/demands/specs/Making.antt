@@ -1,14 +1,14 @@
 -- Request E6 over a cut of a run: the plain map call on each block, all sources in one call.
-use Rattle.std.specs.Prelude.{ℕ, ◌≡◌, List, [], ◌∷◌, length}
+use Rattle.scope.specs.declared.Refusal.{Refusal}
+use Rattle.std.specs.Prelude.{ℕ, ◌≡◌, List, [], ◌∷◌, length, Result}
 use Rattle.scope.specs.declared.Run.{Run}
 use Rattle.scope.specs.Run.{cells_of}
-use Rattle.map.specs.declared.Mapped.{Mapped}
 use Rattle.map.specs.Promise.{MakingPromiseAt}
 
 -- A block's call and its outcome: the map lent, whatever it holds, the answer and the map afterwards.
 pub record BlockMap : Type 0 where
   pub lent : List ℕ
-  pub answer : Mapped
+  pub answer : Result (Unit {0}) Refusal
   pub after : List ℕ
 
 -- One plain call for each block, with the same lists of sources and a map "of the exact length", and each keeps its promise.
@@ -32,6 +32,6 @@ afters_of [] = []
 afters_of (map ∷ maps) = map.after ∷ afters_of maps
 
 -- Every call answers so.
-abbrev pub EachAnswers : Mapped → List BlockMap → Type 0
+abbrev pub EachAnswers : Result (Unit {0}) Refusal → List BlockMap → Type 0
 EachAnswers answer [] = Unit {0}
 EachAnswers answer (map ∷ maps) = (map.answer ≡ answer) × EachAnswers answer maps

@@ -2,6 +2,7 @@
 // under the same name and with the same promise, as what C calls. Every function is proved and asks nothing of its caller.
 // An answer's refusal is 0, or the refusal's number; then all else in it is 0 but the place of the source that it concerns, if any,
 // and nothing lent was changed. Where no refusal concerns a source of a list, the answer has no place.
+// Numbers for kinds and refusals, 0 where there is none, and arrays with a count are the C interface.
 #![tactic(auto)]
 
 ghost use Rattle.std.specs.Prelude.{◌≡◌};
@@ -13,14 +14,12 @@ ghost use Rattle.blanking.specs.Promise.{BlankingPromise};
 ghost use Rattle.saved.specs.Promise.{SavingPromise, ReadingPromise};
 ghost use Rattle.text.specs.Promise.{TextPromise};
 ghost use Rattle.exports.specs.Promise.{Exported};
-ghost use Rattle.exports.specs.Replies.{tell_place, tell_steps, tell_first, tell_listing, tell_mapped, tell_blanking, tell_saved, tell_loaded, tell_answer, tell_text_place, tell_text};
+ghost use Rattle.exports.specs.Replies.{tell_place, tell_steps, tell_first, tell_listing, tell_mapped, tell_blanking, tell_saved, tell_loaded, tell_text};
 
-use blanking::{Blanking, Guard};
-use hits::{FirstHit, Listing};
-use map::Mapped;
-use saved::{Loaded, Saved};
-use scope::{Place, Run, RunCell, Source, number_of};
-use text::{Answer, Input};
+use blanking::Guard;
+use hits::Listing;
+use scope::{Place, Refusal, Run, RunCell, Source};
+use text::Input;
 use vectors::Steps;
 
 // The step vectors.
@@ -104,7 +103,7 @@ pub struct TextReply {
     pub phases: [u32; 64],
 }
 
-// A place in a number: 0 where there is none.
+// A place in a number: 0 where there is none. No From: neither type is of this crate.
 fn tell_place(place: Place) -> u64
     ensures { result ≡ tell_place place }
 {
@@ -115,196 +114,193 @@ fn tell_place(place: Place) -> u64
 }
 
 // The step vectors in numbers.
-fn tell_steps(reply: Steps) -> StepsReply
-    ensures { result ≡ tell_steps reply }
-{
-    match reply {
-        Steps::Pair(left, right) => StepsReply {
-            refusal: 0,
-            vectors: 2,
-            alpha: left.offset,
-            beta: left.line,
-            gamma: right.offset,
-            delta: right.line,
-        },
-        Steps::Single(only) => StepsReply {
-            refusal: 0,
-            vectors: 1,
-            alpha: only.offset,
-            beta: only.line,
-            gamma: 0,
-            delta: 0,
-        },
-        Steps::Refused(reason, _) => StepsReply {
-            refusal: number_of(reason),
-            vectors: 0,
-            alpha: 0,
-            beta: 0,
-            gamma: 0,
-            delta: 0,
-        },
+impl From<Steps> for StepsReply {
+    ghost from_gives = { λ reply told. told ≡ tell_steps reply };
+
+    fn from(reply: Steps) -> StepsReply {
+        match reply {
+            Steps::Pair(left, right) => StepsReply {
+                refusal: 0,
+                vectors: 2,
+                alpha: left.offset,
+                beta: left.line,
+                gamma: right.offset,
+                delta: right.line,
+            },
+            Steps::Single(only) => StepsReply {
+                refusal: 0,
+                vectors: 1,
+                alpha: only.offset,
+                beta: only.line,
+                gamma: 0,
+                delta: 0,
+            },
+            Steps::Refused(reason, _) => StepsReply {
+                refusal: u8::from(reason),
+                vectors: 0,
+                alpha: 0,
+                beta: 0,
+                gamma: 0,
+                delta: 0,
+            },
+        }
     }
 }
 
 // The first hit in numbers.
-fn tell_first(reply: FirstHit) -> FirstHitReply
-    ensures { result ≡ tell_first reply }
-{
-    match reply {
-        FirstHit::At(hit) => FirstHitReply {
-            refusal: 0,
-            found: 1,
-            cell: hit.0,
-        },
-        FirstHit::Nothing => FirstHitReply {
-            refusal: 0,
-            found: 0,
-            cell: 0,
-        },
-        FirstHit::Refused(reason, _) => FirstHitReply {
-            refusal: number_of(reason),
-            found: 0,
-            cell: 0,
-        },
+impl From<Result<Option<RunCell>, Refusal>> for FirstHitReply {
+    ghost from_gives = { λ reply told. told ≡ tell_first reply };
+
+    fn from(reply: Result<Option<RunCell>, Refusal>) -> FirstHitReply {
+        match reply {
+            Ok(Some(hit)) => FirstHitReply {
+                refusal: 0,
+                found: 1,
+                cell: hit.0,
+            },
+            Ok(None) => FirstHitReply {
+                refusal: 0,
+                found: 0,
+                cell: 0,
+            },
+            Err(refusal) => FirstHitReply {
+                refusal: u8::from(refusal.reason),
+                found: 0,
+                cell: 0,
+            },
+        }
     }
 }
 
 // The end of a listing in numbers.
-fn tell_listing(reply: Listing) -> ListingReply
-    ensures { result ≡ tell_listing reply }
-{
-    match reply {
-        Listing::Done(count) => ListingReply {
-            refusal: 0,
-            more: 0,
-            count,
-            next: 0,
-        },
-        Listing::More(count, hit) => ListingReply {
-            refusal: 0,
-            more: 1,
-            count,
-            next: hit.0,
-        },
-        Listing::Refused(reason, _) => ListingReply {
-            refusal: number_of(reason),
-            more: 0,
-            count: 0,
-            next: 0,
-        },
+impl From<Result<Listing, Refusal>> for ListingReply {
+    ghost from_gives = { λ reply told. told ≡ tell_listing reply };
+
+    fn from(reply: Result<Listing, Refusal>) -> ListingReply {
+        match reply {
+            Ok(Listing { count, next: None }) => ListingReply {
+                refusal: 0,
+                more: 0,
+                count,
+                next: 0,
+            },
+            Ok(
+                Listing {
+                    count,
+                    next: Some(hit),
+                },
+            ) => ListingReply {
+                refusal: 0,
+                more: 1,
+                count,
+                next: hit.0,
+            },
+            Err(refusal) => ListingReply {
+                refusal: u8::from(refusal.reason),
+                more: 0,
+                count: 0,
+                next: 0,
+            },
+        }
     }
 }
 
 // What a map call came to, in numbers.
-fn tell_mapped(reply: Mapped) -> MappedReply
-    ensures { result ≡ tell_mapped reply }
-{
-    match reply {
-        Mapped::Done => MappedReply {
-            refusal: 0,
-            place: 0,
-        },
-        Mapped::Refused(reason, place) => MappedReply {
-            refusal: number_of(reason),
-            place: tell_place(place),
-        },
+impl From<Result<(), Refusal>> for MappedReply {
+    ghost from_gives = { λ reply told. told ≡ tell_mapped reply };
+
+    fn from(reply: Result<(), Refusal>) -> MappedReply {
+        match reply {
+            Ok(()) => MappedReply {
+                refusal: 0,
+                place: 0,
+            },
+            Err(refusal) => MappedReply {
+                refusal: u8::from(refusal.reason),
+                place: tell_place(refusal.place),
+            },
+        }
     }
 }
 
 // What the blanking call came to, in numbers.
-fn tell_blanking(reply: Blanking) -> BlankingReply
-    ensures { result ≡ tell_blanking reply }
-{
-    match reply {
-        Blanking::Done(count) => BlankingReply { refusal: 0, count },
-        Blanking::Refused(reason, _) => BlankingReply {
-            refusal: number_of(reason),
-            count: 0,
-        },
+impl From<Result<usize, Refusal>> for BlankingReply {
+    ghost from_gives = { λ reply told. told ≡ tell_blanking reply };
+
+    fn from(reply: Result<usize, Refusal>) -> BlankingReply {
+        match reply {
+            Ok(count) => BlankingReply { refusal: 0, count },
+            Err(refusal) => BlankingReply {
+                refusal: u8::from(refusal.reason),
+                count: 0,
+            },
+        }
     }
 }
 
-// What saving came to, as a number.
-fn tell_saved(reply: Saved) -> u8
+// What saving came to, as a number. No From: neither type is of this crate.
+fn tell_saved(reply: Result<(), Refusal>) -> u8
     ensures { result ≡ tell_saved reply }
 {
     match reply {
-        Saved::Done => 0,
-        Saved::Refused(reason, _) => number_of(reason),
+        Ok(()) => 0,
+        Err(refusal) => u8::from(refusal.reason),
     }
 }
 
 // The run of a file in numbers.
-fn tell_loaded(reply: Loaded) -> RunReply
-    ensures { result ≡ tell_loaded reply }
-{
-    match reply {
-        Loaded::Of(run) => RunReply {
-            refusal: 0,
-            window: run.window,
-            interval: run.interval,
-            first: run.first,
-            last: run.last,
-        },
-        Loaded::Refused(reason, _) => RunReply {
-            refusal: number_of(reason),
-            window: 0,
-            interval: 0,
-            first: 0,
-            last: 0,
-        },
-    }
-}
+impl From<Result<Run, Refusal>> for RunReply {
+    ghost from_gives = { λ reply told. told ≡ tell_loaded reply };
 
-// The run of a text in numbers.
-fn tell_answer(reply: Answer) -> RunReply
-    ensures { result ≡ tell_answer reply }
-{
-    match reply {
-        Answer::Read(run) => tell_loaded(Loaded::Of(run)),
-        Answer::Refused(reason, place) => tell_loaded(Loaded::Refused(reason, place)),
-    }
-}
-
-// The place that the refusal of a text has, in a number.
-fn tell_text_place(reply: Answer) -> u64
-    ensures { result ≡ tell_text_place reply }
-{
-    match reply {
-        Answer::Read(_) => 0,
-        Answer::Refused(_, place) => tell_place(place),
+    fn from(reply: Result<Run, Refusal>) -> RunReply {
+        match reply {
+            Ok(run) => RunReply {
+                refusal: 0,
+                window: run.window,
+                interval: run.interval,
+                first: run.first,
+                last: run.last,
+            },
+            Err(refusal) => RunReply {
+                refusal: u8::from(refusal.reason),
+                window: 0,
+                interval: 0,
+                first: 0,
+                last: 0,
+            },
+        }
     }
 }
 
 // The run and the sources of a text in numbers.
-fn tell_text(reply: Input) -> TextReply
-    ensures { result ≡ tell_text reply }
-{
-    let answer = reply.answer;
-    let run = tell_answer(answer);
-    let place = tell_text_place(answer);
-    let periods = reply.periods;
-    let weights = reply.weights;
-    let phases = reply.phases;
-    TextReply {
-        run,
-        place,
-        count: reply.count,
-        periods,
-        weights,
-        phases,
-    }
-}
+impl From<Result<Input, Refusal>> for TextReply {
+    ghost from_gives = { λ reply told. told ≡ tell_text reply };
 
-// The run with these four numbers.
-fn run_with(window: u32, interval: u32, first: u32, last: u32) -> Run
-    ensures { result ≡ run_with window interval first last }
-{
-    Run {
-        window,
-        interval,
-        first,
-        last,
+    #[tactic(auto, unfolding(rooms::specs::Lists::zeros))]
+    fn from(reply: Result<Input, Refusal>) -> TextReply {
+        match reply {
+            Ok(input) => {
+                let periods = input.periods;
+                let weights = input.weights;
+                let phases = input.phases;
+                TextReply {
+                    run: RunReply::from(Ok(input.run)),
+                    place: 0,
+                    count: input.count,
+                    periods,
+                    weights,
+                    phases,
+                }
+            }
+            Err(refusal) => TextReply {
+                run: RunReply::from(Err(refusal)),
+                place: tell_place(refusal.place),
+                count: 0,
+                periods: [0; 64],
+                weights: [0; 64],
+                phases: [0; 64],
+            },
+        }
     }
 }
 
@@ -312,7 +308,7 @@ fn run_with(window: u32, interval: u32, first: u32, last: u32) -> Run
 pub fn zenithgong_step_vectors(period: u32, remainder: u32, window: u32) -> StepsReply
     ensures { Exported (VectorsPromise period remainder window) tell_steps result }
 {
-    tell_steps(vectors::step_vectors(period, remainder, window))
+    StepsReply::from(vectors::step_vectors(period, remainder, window))
 }
 
 // Public operation: `hits::first_hit` of the run with these four numbers, its reply in numbers.
@@ -327,8 +323,8 @@ pub fn zenithgong_first_hit(
 ) -> FirstHitReply
     ensures { Exported (FirstHitPromise (run_with window interval first last) (record { period = period; phase = phase }) (record { 0 = start })) tell_first result }
 {
-    let run = run_with(window, interval, first, last);
-    tell_first(hits::first_hit(run, Source { period, phase }, RunCell(start)))
+    let run = Run::new(window, interval, first, last);
+    FirstHitReply::from(hits::first_hit(run, Source { period, phase }, RunCell(start)))
 }
 
 // Public operation: `hits::list_hits` of the run with these four numbers, its reply in numbers.
@@ -344,8 +340,8 @@ pub fn zenithgong_list_hits(
 ) -> ListingReply
     ensures { Exported (λ reply. ListingPromise (run_with window interval first last) (record { period = period; phase = phase }) (record { 0 = start }) room.old reply room.new) tell_listing result }
 {
-    let run = run_with(window, interval, first, last);
-    tell_listing(hits::list_hits(run, Source { period, phase }, RunCell(start), room))
+    let run = Run::new(window, interval, first, last);
+    ListingReply::from(hits::list_hits(run, Source { period, phase }, RunCell(start), room))
 }
 
 // Public operation: `map::make_map` for the run with these four numbers, its reply in numbers. The map starts clean.
@@ -361,8 +357,8 @@ pub fn zenithgong_make_map(
 ) -> MappedReply
     ensures { Exported (λ reply. MakingPromise (run_with window interval first last) periods.now weights.now phases.now map.old reply map.new) tell_mapped result }
 {
-    let run = run_with(window, interval, first, last);
-    tell_mapped(map::make_map(run, periods, weights, phases, map))
+    let run = Run::new(window, interval, first, last);
+    MappedReply::from(map::make_map(run, periods, weights, phases, map))
 }
 
 // Public operation: `map::add_to_map` for the run with these four numbers, its reply in numbers. The map is added to as it was lent.
@@ -378,8 +374,8 @@ pub fn zenithgong_add_to_map(
 ) -> MappedReply
     ensures { Exported (λ reply. AddingPromise (run_with window interval first last) periods.now weights.now phases.now map.old reply map.new) tell_mapped result }
 {
-    let run = run_with(window, interval, first, last);
-    tell_mapped(map::add_to_map(run, periods, weights, phases, map))
+    let run = Run::new(window, interval, first, last);
+    MappedReply::from(map::add_to_map(run, periods, weights, phases, map))
 }
 
 // Public operation: `blanking::list_stretches` for the run with these four numbers and the guard with these two offsets, its reply in
@@ -397,8 +393,14 @@ pub fn zenithgong_list_stretches(
 ) -> BlankingReply
     ensures { Exported (λ reply. BlankingPromise (run_with window interval first last) map.now threshold (record { lowest = lowest; highest = highest }) room.old reply room.new) tell_blanking result }
 {
-    let run = run_with(window, interval, first, last);
-    tell_blanking(blanking::list_stretches(run, map, threshold, Guard { lowest, highest }, room))
+    let run = Run::new(window, interval, first, last);
+    BlankingReply::from(blanking::list_stretches(
+        run,
+        map,
+        threshold,
+        Guard { lowest, highest },
+        room,
+    ))
 }
 
 // Public operation: `saved::save` for the run with these four numbers. 0 when done, else the refusal's number.
@@ -412,7 +414,7 @@ pub fn zenithgong_save(
 ) -> u8
     ensures { Exported (λ reply. SavingPromise (run_with window interval first last) map.now file.old reply file.new) tell_saved result }
 {
-    let run = run_with(window, interval, first, last);
+    let run = Run::new(window, interval, first, last);
     tell_saved(saved::save(run, map, file))
 }
 
@@ -420,12 +422,12 @@ pub fn zenithgong_save(
 pub fn zenithgong_read(file: &[u8], map: &mut [u8]) -> RunReply
     ensures { Exported (λ reply. ReadingPromise file.now map.old reply map.new) tell_loaded result }
 {
-    tell_loaded(saved::read(file, map))
+    RunReply::from(saved::read(file, map))
 }
 
 // Public operation: `text::read_text`, its reply in numbers.
 pub fn zenithgong_read_text(text: &[u8]) -> TextReply
     ensures { Exported (TextPromise text.now) tell_text result }
 {
-    tell_text(text::read_text(text))
+    TextReply::from(text::read_text(text))
 }

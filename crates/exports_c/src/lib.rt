@@ -1,5 +1,6 @@
 // The door for programs in other languages: each function of crate exports under its own name, called as a C function is, with the
-// same promise. A slice goes in as a pointer and a length. What the answers say stands at their structs, in that crate.
+// same promise. Each stands twice, since a crate is a library or an archive and not both. A slice goes in as a pointer and a length. What
+// the answers say stands at their structs, in that crate.
 #![tactic(auto)]
 
 ghost use Rattle.scope.specs.Run.{run_with};

@@ -1,5 +1,8 @@
 -- A row holds if its figure is an outcome of the promise, since no second one fits; of the saved map: if the row's length is
 -- that of the run's file, and the file has it and these checks. Assumes nothing.
+use Rattle.std.specs.Prelude.{Result, Ok, Err, Some, None, Option as Option·code}
+use Rattle.scope.specs.declared.Refusal.{Refusal}
+use Rattle.scope.specs.declared.RunCell.{RunCell}
 use Prim.Native.Nat.{ℕ, ◌+◌, ◌*◌, ◌%◌, ◌≤◌, min}
 use mathlib.Core.Path.{◌≡◌, refl, sym, ap, subst, subst₂, ◌∙◌}
 use mathlib.Core.Bool.{true, false, not}
@@ -28,19 +31,15 @@ use Rattle.scope.proofs.Hits.{hits_remainder}
 use Rattle.vectors.specs.Vectors.{vector, InLattice, IsPair, Values}
 use Rattle.vectors.specs.Promise.{vectors_tests, says_vectors, Admits, VectorsPromise}
 use Rattle.vectors.proofs.Unique.{said_unique}
-use Rattle.saved.specs.declared.Saved.{Saved}
-use Rattle.saved.specs.declared.Saved.TheVariants.{Done as Done·saved, Refused as Refused·saved}
 use Rattle.fileblocks.specs.FileBlock.{file_block_bytes, check_at, four_at}
 use Rattle.scope.proofs.Differs.{agrees, differs, same}
 use Rattle.saved.specs.File.{file_length, bytes_for, file_of, saving_tests}
 use Rattle.saved.specs.Promise.{says_saving, SavingPromise}
 use Rattle.saved.proofs.Promises.{refuse_saving, grant_saving}
-use Rattle.map.specs.declared.Mapped.TheVariants.{Done as Done·map}
 use Rattle.map.specs.Promise.{MakingPromise}
 use Rattle.map.proofs.Calls.{whatever_held}
 use Rattle.map.proofs.Unique.{call_unique}
 use Rattle.hits.specs.declared.Listing.{Listing}
-use Rattle.hits.specs.declared.Listing.TheVariants.{Done, More, Refused}
 use Rattle.hits.specs.Promise.{first_hit_tests, listing_tests, first as first_of, Listed, says_listing, listed, written}
 use Rattle.figures.specs.Table.{vectors, hits, mapped, saved, Holds}
 
@@ -88,10 +87,17 @@ abbrev next_of : Said Listed → Option ℕ
 next_of (answered l) = l.next
 next_of (refused n place) = none
 
-says_done : (n : ℕ) (r : Listing) → says_listing r ≡ says_listing (Done n) → r ≡ Done n
-says_done n (Done m) e = ap Done (ap count_of e)
-says_done n (More m cell) e = let d : some cell.0 ≡ none = ap next_of e in cc
-says_done n (Refused reason place) e = cc
+-- the reply "done", with so many hits written
+abbrev all_listed : ℕ → Result Listing Refusal
+all_listed n = Ok (record { count = n; next = None })
+
+says_done : (n : ℕ) (r : Result Listing Refusal) → says_listing r ≡ says_listing (all_listed n) → r ≡ all_listed n
+says_done n (Ok listing) e = on listing.count listing.next e
+  where
+    on : (m : ℕ) (next : Option·code RunCell) → says_listing (Ok (record { count = m; next = next })) ≡ says_listing (all_listed n) → Ok (record { count = m; next = next }) ≡ all_listed n
+    on m None e = ap all_listed (ap count_of e)
+    on m (Some cell) e = let d : some cell.0 ≡ none = ap next_of e in cc
+says_done n (Err refusal) e = cc
 
 map_pos_same : (a b : List ℕ) → map pos a ≡ map pos b → a ≡ b
 map_pos_same a b e = sym (back a) ∙ ap (map nat_abs) e ∙ back b
@@ -137,7 +143,7 @@ module _ (p r I first last : ℕ) (figure : List (ℤ × ℕ)) (cells : List ℕ
         next : first_of (drop (length room) cells) ≡ none
         next = rw (drop_of_length-le cells {i = length room} (omega (arith, e, many)))
 
-    said : reply (complaint (listing_tests (run_with I T first last) (record { period = p; phase = 0 }) (record { 0 = 0 }) room)) (listed (hits_from (run_with I T first last) (record { period = p; phase = 0 }) 0) room) ≡ says_listing (Done (length figure))
+    said : reply (complaint (listing_tests (run_with I T first last) (record { period = p; phase = 0 }) (record { 0 = 0 }) room)) (listed (hits_from (run_with I T first last) (record { period = p; phase = 0 }) 0) room) ≡ says_listing (all_listed (length figure))
     said = rw (granted.is, hit, counted)
 
     held : stored (complaint (listing_tests (run_with I T first last) (record { period = p; phase = 0 }) (record { 0 = 0 }) room)) room (written (hits_from (run_with I T first last) (record { period = p; phase = 0 }) 0) room) ≡ cells
@@ -152,16 +158,16 @@ module _ (p r I first last : ℕ) (figure : List (ℤ × ℕ)) (cells : List ℕ
 -- ---- maps
 
 -- an outcome that fits one map lent, as the figure's own cells, fits every other and is the only one
-pub map_row : (run : Run) (periods weights phases figure : List ℕ) → MakingPromise run periods weights phases figure Done·map figure → Holds (mapped run periods weights phases figure)
+pub map_row : (run : Run) (periods weights phases figure : List ℕ) → MakingPromise run periods weights phases figure (Ok tt) figure → Holds (mapped run periods weights phases figure)
 map_row run periods weights phases figure h map e answer after =
     let fits = whatever_held _ run periods weights phases h (sym e) in
     (λ k. call_unique k fits, λ e. subst₂ (MakingPromise run periods weights phases map) (sym e.0) (sym e.1) fits)
 
 -- ---- saved maps
 
-saved_done : (answer : Saved) → says_saving answer ≡ answered tt → answer ≡ Done·saved
-saved_done Done·saved e = refl
-saved_done (Refused·saved reason place) e = cc
+saved_done : (answer : Result (Unit {0}) Refusal) → says_saving answer ≡ answered tt → answer ≡ Ok tt
+saved_done (Ok done) e = refl
+saved_done (Err refusal) e = cc
 
 -- the room's length is the one test left, and every admitted file is the one that the layout gives
 module _ (run : Run) (cells : List ℕ) (size first second : ℕ)
@@ -182,21 +188,21 @@ module _ (run : Run) (cells : List ℕ) (size first second : ℕ)
   unfolding saving_tests
   sized room tests = same _ _ (passes_then tests) ∙ sym room_size
 
-  exists : (room : List ℕ) → Dec (length room ≡ size) → (answer : Saved) × (after : List ℕ) × SavingPromise run cells room answer after
+  exists : (room : List ℕ) → Dec (length room ≡ size) → (answer : Result (Unit {0}) Refusal) × (after : List ℕ) × SavingPromise run cells room answer after
   unfolding saving_tests
-  exists room (yes e) = (Done·saved, file_of run cells, grant_saving (granted_room room e) refl)
-  exists room (no n) = (Refused·saved Room Nowhere, room, refuse_saving (then begun (broken (differs refl refl (λ e. n (e ∙ sym room_size))))))
+  exists room (yes e) = (Ok tt, file_of run cells, grant_saving (granted_room room e) refl)
+  exists room (no n) = (Err (record { reason = Room; place = Nowhere }), room, refuse_saving (then begun (broken (differs refl refl (λ e. n (e ∙ sym room_size))))))
 
   pub saved_row : Holds (saved run cells size first second)
   saved_row room = (λ answer after h. ((to answer after h, from answer after h), holds answer after h), exists room (ℕ_discrete (length room) size))
     where
-      to : (answer : Saved) (after : List ℕ) → SavingPromise run cells room answer after → answer ≡ Done·saved → length room ≡ size
+      to : (answer : Result (Unit {0}) Refusal) (after : List ℕ) → SavingPromise run cells room answer after → answer ≡ Ok tt → length room ≡ size
       to answer after h e = sized room (said_answered (saving_tests run cells room) (sym (ap says_saving e) ∙ h.says)).0
 
-      from : (answer : Saved) (after : List ℕ) → SavingPromise run cells room answer after → length room ≡ size → answer ≡ Done·saved
+      from : (answer : Result (Unit {0}) Refusal) (after : List ℕ) → SavingPromise run cells room answer after → length room ≡ size → answer ≡ Ok tt
       from answer after h e = saved_done answer (h.says ∙ sym (grant_reply tt (granted_room room e)))
 
-      holds : (answer : Saved) (after : List ℕ) → SavingPromise run cells room answer after → answer ≡ Done·saved → (length after ≡ size) × (four_at after check_at ≡ first) × (four_at after (file_block_bytes + check_at) ≡ second)
+      holds : (answer : Result (Unit {0}) Refusal) (after : List ℕ) → SavingPromise run cells room answer after → answer ≡ Ok tt → (length after ≡ size) × (four_at after check_at ≡ first) × (four_at after (file_block_bytes + check_at) ≡ second)
       holds answer after h e =
           let is : after ≡ file_of run cells = h.stores ∙ sym (grant_stored room (file_of run cells) (granted_room room (to answer after h e))) in
           (ap length is ∙ long, ap (λ f. four_at f check_at) is ∙ a, ap (λ f. four_at f (file_block_bytes + check_at)) is ∙ b)

@@ -1,6 +1,7 @@
 -- Document 01, "Bench figures": the starred ones, and the refusal that stands beside one of them, as they stand there, each source
 -- at phase 0 ("a line without it means phase 0", E5); and what it is for a figure to hold.
-use Rattle.std.specs.Prelude.{ℕ, ◌+◌, ◌%◌, ◌≤◌, ◌≡◌, List, [], ◌∷◌, map, ◌↔◌, length}
+use Rattle.scope.specs.declared.Refusal.{Refusal}
+use Rattle.std.specs.Prelude.{ℕ, ◌+◌, ◌%◌, ◌≤◌, ◌≡◌, List, [], ◌∷◌, map, ◌↔◌, length, Result, Ok, None}
 use lib.IntN.{ℤ, pos}
 use Rattle.scope.specs.declared.Run.{Run}
 use Rattle.scope.specs.Run.{run_with, cell_of}
@@ -9,15 +10,10 @@ use Rattle.scope.specs.Reply.{Said, refused, answered}
 use Rattle.vectors.specs.declared.Steps.{Steps}
 use Rattle.vectors.specs.Vectors.{Values, pair, single}
 use Rattle.vectors.specs.Promise.{says_vectors, VectorsPromise}
-use Rattle.map.specs.declared.Mapped.{Mapped}
-use Rattle.map.specs.declared.Mapped.TheVariants.{Done as Done·map}
 use Rattle.map.specs.Promise.{MakingPromise}
-use Rattle.saved.specs.declared.Saved.{Saved}
-use Rattle.saved.specs.declared.Saved.TheVariants.{Done as Done·saved}
 use Rattle.fileblocks.specs.FileBlock.{file_block_bytes, check_at, four_at}
 use Rattle.saved.specs.Promise.{SavingPromise}
 use Rattle.hits.specs.declared.Listing.{Listing}
-use Rattle.hits.specs.declared.Listing.TheVariants.{Done}
 use Rattle.hits.specs.Promise.{ListingPromise}
 
 -- A row of the table.
@@ -37,18 +33,18 @@ pub data Figure : Type 0 where
 abbrev pub Holds : Figure → Type 0
 Holds (vectors p r I figure) = (steps : Steps) → VectorsPromise p r I steps ↔ (says_vectors steps ≡ figure)
 Holds (hits p r I first last figure) =
-    (T : ℕ) → 1 ≤ T → T % p ≡ r → (room : List ℕ) → length room ≡ length figure → (reply : Listing) (after : List ℕ) →
+    (T : ℕ) → 1 ≤ T → T % p ≡ r → (room : List ℕ) → length room ≡ length figure → (reply : Result Listing Refusal) (after : List ℕ) →
     ListingPromise (run_with I T first last) (record { period = p; phase = 0 }) (record { 0 = 0 }) room reply after ↔
-    ((reply ≡ Done (length figure)) × (map pos after ≡ map (λ hit. cell_of (run_with I T first last) hit.0 hit.1) figure))
+    ((reply ≡ Ok (record { count = length figure; next = None })) × (map pos after ≡ map (λ hit. cell_of (run_with I T first last) hit.0 hit.1) figure))
 Holds (mapped run periods weights phases figure) =
-    (map : List ℕ) → length map ≡ length figure → (answer : Mapped) (after : List ℕ) →
-    MakingPromise run periods weights phases map answer after ↔ ((answer ≡ Done·map) × (after ≡ figure))
+    (map : List ℕ) → length map ≡ length figure → (answer : Result (Unit {0}) Refusal) (after : List ℕ) →
+    MakingPromise run periods weights phases map answer after ↔ ((answer ≡ Ok tt) × (after ≡ figure))
 Holds (saved run cells size first second) =
     (room : List ℕ) →
-    ((answer : Saved) (after : List ℕ) → SavingPromise run cells room answer after →
-    ((answer ≡ Done·saved) ↔ (length room ≡ size)) ×
-    (answer ≡ Done·saved → (length after ≡ size) × (four_at after check_at ≡ first) × (four_at after (file_block_bytes + check_at) ≡ second))) ×
-    ((answer : Saved) × (after : List ℕ) × SavingPromise run cells room answer after)
+    ((answer : Result (Unit {0}) Refusal) (after : List ℕ) → SavingPromise run cells room answer after →
+    ((answer ≡ Ok tt) ↔ (length room ≡ size)) ×
+    (answer ≡ Ok tt → (length after ≡ size) × (four_at after check_at ≡ first) × (four_at after (file_block_bytes + check_at) ≡ second))) ×
+    ((answer : Result (Unit {0}) Refusal) × (after : List ℕ) × SavingPromise run cells room answer after)
 
 -- An offset below 0, as in -3.
 abbrev pub minus : ℕ → ℤ

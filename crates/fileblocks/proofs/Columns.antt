@@ -1,12 +1,12 @@
 -- The check in two columns, as a spreadsheet has them: the running totals of the bytes from the last to the first, and the sum of the
 -- totals. `columns` says that the sum is 01's "sum of (k+1)·byte k", for any number of bytes. Assumes nothing.
-use Prim.Native.Nat.{ℕ, zero, suc, ◌+◌, ◌-◌, ◌*◌, ◌≤◌, ◌<◌}
+use Prim.Native.Nat.{ℕ, zero, suc, ◌+◌, ◌*◌, ◌≤◌, ◌<◌}
 use mathlib.Core.Path.{◌≡◌, refl, sym, ap, ◌∙◌}
-use mathlib.Core.List.{List, [], ◌∷◌}
+use mathlib.Core.List.{List, [], ◌∷◌, ◌++◌, append_assoc, append-nil}
 use native.Mathlib.Nat.{suc-mul}
 use native.Mathlib.Omega.{arith}
-use lib.ListN.{length, get_or, take, drop, length-take, take-append-drop, drop_of_length-le}
-use lib.Seq.{take-length, drop-cons, get_or-take, length-take-le}
+use lib.ListN.{length, get_or, take, drop, length-append, length-take, take-append-drop}
+use lib.Seq.{take-length, length-take-le}
 use Rattle.fileblocks.specs.FileBlock.{check_at, weighted, check_of}
 use Rattle.fileblocks.proofs.FileBlock.{check_front}
 
@@ -58,44 +58,40 @@ check_columns block h =
     let front = sym (ap check_of (sym (take-append-drop check_at block)) ∙ check_front (take check_at block) (drop check_at block) long) in
     omega arith
 
--- the bytes of the first rows, of which row 1 has byte 507
-abbrev in_rows : List ℕ → ℕ → List ℕ
-in_rows block rows = drop (check_at - rows) (take check_at block)
+-- after some rows, of which row 1 has byte 507: `left` are the bytes of the rows to come, `done` those of the rows so far; `above`, the total
+-- above the next row, is the total of `done`, and `sum` is the sum of its totals; no total is above 508·255, which is 129540
+pub record Rows (block left : List ℕ) (above sum : ℕ) : Type 0 where
+  pub done : List ℕ
+  pub whole : left ++ done ≡ take check_at block
+  pub few : length done ≤ check_at
+  pub above_is : above ≡ total done
+  pub sum_is : sum ≡ total (totals done)
+  pub above_small : above ≤ 255 * length done
+  pub sum_small : sum ≤ 129540 * length done
 
--- after so many rows: `above`, the total above the next row, is that of their bytes, and `sum` is the sum of their totals; no total is
--- above 508·255, which is 129540
-pub record Rows (block : List ℕ) (rows above sum : ℕ) : Type 0 where
-  pub within : rows ≤ check_at
-  pub above_is : above ≡ total (in_rows block rows)
-  pub sum_is : sum ≡ total (totals (in_rows block rows))
-  pub above_small : above ≤ 255 * rows
-  pub sum_small : sum ≤ 129540 * rows
-
-pub rows_none : (block : List ℕ) → Rows block 0 0 0
+pub rows_none : (block : List ℕ) → Rows block (take check_at block) 0 0
 unfolding total totals
 rows_none block =
-    let none : drop check_at (take check_at block) ≡ [] = drop_of_length-le (take check_at block) {i = check_at} (simp length-take (omega arith)) in
-    record { within = omega arith; above_is = sym (ap total none); sum_is = sym (ap (λ l. total (totals l)) none); above_small = omega arith; sum_small = omega arith }
+    record { done = []; whole = append-nil (take check_at block); few = omega arith; above_is = refl; sum_is = refl; above_small = omega arith; sum_small = omega arith }
 
-pub rows_more : {block : List ℕ} {rows above sum byte : ℕ} → Rows block rows above sum → rows < check_at → check_at ≤ length block
-    → byte ≡ get_or block (check_at - (rows + 1)) 0 → byte < 256 → Rows block (rows + 1) (above + byte) (sum + (above + byte))
+-- the next row has the last of the bytes that are left
+pub rows_more : {block left rest : List ℕ} {above sum byte : ℕ} → Rows block left above sum → left ≡ rest ++ byte ∷ [] → byte < 256
+    → Rows block rest (above + byte) (sum + (above + byte))
 unfolding total totals
-rows_more {block} {rows} {above} {sum} {byte} r h long e small =
-    let k = check_at - (rows + 1) in
-    let front = take check_at block in
-    let inside : k < length front = simp length-take (omega arith) in
-    let next : suc k ≡ check_at - rows = omega arith in
-    let here : byte ≡ get_or front k 0 = e ∙ sym (get_or-take check_at block k 0 (omega arith)) in
-    let split : drop k front ≡ byte ∷ in_rows block rows = drop-cons front k 0 inside ∙ cc in
+rows_more {block} {left} {rest} {above} {sum} {byte} r last small =
+    let split : rest ++ byte ∷ r.done ≡ take check_at block = sym (append_assoc rest (byte ∷ []) r.done) ∙ ap (λ l. l ++ r.done) (sym last) ∙ r.whole in
+    let few : length (byte ∷ r.done) ≤ check_at = omega (arith, ap length split, length-append rest (byte ∷ r.done), length-take check_at block) in
     record {
-      within = omega arith;
-      above_is = ap (λ n. n + byte) r.above_is ∙ sym (ap total split);
-      sum_is = cc;
+      done = byte ∷ r.done;
+      whole = split;
+      few = few;
+      above_is = omega (arith, r.above_is);
+      sum_is = omega (arith, r.sum_is, r.above_is);
       above_small = omega arith;
       sum_small = omega arith;
     }
 
-pub rows_all : {block : List ℕ} {rows above sum : ℕ} → Rows block rows above sum → check_at ≤ rows → check_at ≤ length block → sum + 1 ≡ check_of block
-rows_all {block} {rows} r all long =
-    let none : check_at - rows ≡ 0 = omega arith in
-    ap (λ n. n + 1) (r.sum_is ∙ ap (λ n. total (totals (drop n (take check_at block)))) none) ∙ check_columns block long
+-- no byte is left
+pub rows_all : {block left : List ℕ} {above sum : ℕ} → Rows block left above sum → length left ≡ 0 → check_at ≤ length block → sum + 1 ≡ check_of block
+rows_all {block} {left = []} r none long = ap (λ n. n + 1) (r.sum_is ∙ ap (λ l. total (totals l)) r.whole) ∙ check_columns block long
+rows_all {block} {left = byte ∷ left} r none long = absurd (omega arith)

@@ -1,5 +1,5 @@
 -- What is so of every block: its lengths, and that its check is that of its first 508 bytes. Assumes nothing.
-use Prim.Native.Nat.{ℕ, zero, suc, ◌+◌, ◌-◌, ◌*◌, ◌≤◌}
+use Prim.Native.Nat.{ℕ, zero, suc, ◌+◌, ◌-◌, ◌*◌, ◌/◌, ◌%◌, ◌≤◌}
 use mathlib.Core.Path.{◌≡◌, refl, ap, ◌∙◌}
 use mathlib.Core.Logic.{◌↔◌}
 use mathlib.Core.Bool.{true, false, cond, false≢true}
@@ -11,10 +11,19 @@ use lib.Dec.{eqb}
 use borrow.Author.Tests.{eq-eqb, ne_eqb, eqb-true}
 use lib.Seq.{take_all, take-append_seam}
 use borrow.Rule.Slice.PartMut.{mid_of, put_mid, mid_len}
+use Rattle.std.specs.Int.{to_le_bytes, w32}
 use Rattle.rooms.specs.Lists.{zeros}
 use Rattle.rooms.proofs.Lists.{length_zeros}
 use Rattle.fileblocks.specs.FileBlock.{file_block_bytes, content_at, content_bytes, check_at, four, four_at, weighted, check_of, filled, file_block_of, sealed_with}
 use Rattle.rooms.proofs.Written.{written_none, written_part, written_length, written_all}
+
+-- the library's bytes of a number are its four bytes
+pub four_is : (n : ℕ) → to_le_bytes w32 n ≡ four n
+unfolding four
+four_is n =
+    let third : n / 65536 % 256 ≡ n / 256 / 256 % 256 = omega arith in
+    let fourth : n / 16777216 % 256 ≡ n / 256 / 256 / 256 % 256 = omega arith in
+    cc
 
 pub length_four : (n : ℕ) → length (four n) ≡ 4
 unfolding four

@@ -8,7 +8,7 @@ ghost use Rattle.scope.specs.Refusal.{complaint};
 ghost use Rattle.scope.specs.Inner.{verdict};
 ghost use Rattle.fileblocks.specs.FileBlock.{file_block_bytes, content_bytes, check_at, four, four_at, check_of, file_block_of, all_zero, sealed_with, file_block_tests};
 
-use scope::{Place, Reason, Verdict};
+use scope::{Reason, Refusal};
 
 // A file block has so many bytes: its number, its contents, its check.
 pub const FILE_BLOCK_BYTES: usize = 512;
@@ -19,13 +19,6 @@ pub const CONTENT_BYTES: usize = 504;
 // Its check stands from this byte on.
 const CHECK_AT: usize = 508;
 
-// A byte as a wider number: the same, and below 256.
-fn wide(byte: u8) -> u32
-    ensures { (result ≡ byte) × (result < 256) }
-{
-    byte as u32
-}
-
 // The check of a block, 1 and the sum of (k+1)·byte k, in two columns as a spreadsheet has them: row 1 has byte 507, row 508 byte 0. A
 // row's total is the total above it and its byte, and the sum adds up the totals: byte k is in k+1 of them. None of the 508 totals is
 // above 508·255, so that 32 bits hold the sum.
@@ -35,26 +28,21 @@ fn check(block: &[u8]) -> u32
 {
     let mut total: u32 = 0;
     let mut sum: u32 = 0;
-    let mut row: usize = 0;
-    while row < CHECK_AT {
-        row += 1;
+    for byte in block[..CHECK_AT].iter().rev() {
         let above = total;
-        total = above + wide(block[CHECK_AT - row]);
+        total = above + u32::from(*byte);
         sum += total;
     }
     sum + 1
 }
 
-// Inner step. The number that the four bytes from `at` on stand for, the lowest first: each is at most 255, so that it fits.
+// Inner step. The number that the four bytes from `at` on stand for, the lowest first. An array of the four by `first_chunk` is no plainer:
+// that they are there is known, and would be asked once more.
 pub fn four_at(bytes: &[u8], at: usize) -> u32
     requires { at + 4 ≤ length bytes.now }
     ensures { result ≡ four_at bytes.now at }
 {
-    let first = wide(bytes[at]);
-    let second = wide(bytes[at + 1]);
-    let third = wide(bytes[at + 2]);
-    let fourth = wide(bytes[at + 3]);
-    first + 256 * (second + 256 * (third + 256 * fourth))
+    u32::from_le_bytes([bytes[at], bytes[at + 1], bytes[at + 2], bytes[at + 3]])
 }
 
 // Inner step. Writes a number as four bytes, the lowest first.
@@ -62,64 +50,50 @@ pub fn put_four(room: &mut [u8], number: u32)
     requires { length room.old ≡ 4 }
     ensures { room.new ≡ four number }
 {
-    room[0] = (number % 256) as u8;
-    room[1] = (number / 256 % 256) as u8;
-    room[2] = (number / 256 / 256 % 256) as u8;
-    room[3] = (number / 256 / 256 / 256 % 256) as u8;
+    room.copy_from_slice(&number.to_le_bytes());
 }
 
 // Inner step. Whether every byte from `from` on is zero; of no bytes that is so.
 pub fn zeros_from(bytes: &[u8], from: usize) -> bool
     ensures { result ≡ all_zero (drop from bytes.now) }
 {
-    let mut i = from;
-    while i < bytes.len() {
-        if bytes[i] != 0 {
-            return false;
-        }
-        i += 1;
-    }
-    true
+    bytes[from.min(bytes.len())..].iter().all(|byte| *byte == 0)
 }
 
 // Inner step. Writes the block with this number that holds these bytes, filled up with zeros. The parts follow each other from the front;
 // the check comes last, over what then stands there, so that nothing the room held before counts.
+// The block stays a slice, its length asked for, where a block that is judged is an array: of a room that is cut into arrays
+// (`as_chunks_mut`) nothing is known once they are written.
 pub fn write_file_block(number: u32, bytes: &[u8], block: &mut [u8])
     requires { (length bytes.now ≤ content_bytes) × (length block.old ≡ file_block_bytes) }
     ensures { block.new ≡ file_block_of number bytes.now }
 {
     let end = CONTENT_AT + bytes.len();
     put_four(&mut block[0..CONTENT_AT], number);
-    rooms::copy(bytes, &mut block[CONTENT_AT..end]);
-    rooms::clear(&mut block[end..CHECK_AT]);
+    block[CONTENT_AT..end].copy_from_slice(bytes);
+    block[end..CHECK_AT].fill(0);
     let sum = check(block);
     put_four(&mut block[CHECK_AT..FILE_BLOCK_BYTES], sum);
 }
 
 // Whether a block has this number and the check of its bytes.
-fn is_sealed(number: u32, block: &[u8]) -> bool
-    requires { length block.now ≡ file_block_bytes }
+fn is_sealed(number: u32, block: &[u8; FILE_BLOCK_BYTES]) -> bool
     ensures { result ≡ sealed_with number block.now }
 {
-    if four_at(block, 0) != number {
-        return false;
-    }
-    four_at(block, CHECK_AT) == check(block)
+    four_at(block, 0) == number && four_at(block, CHECK_AT) == check(block)
 }
 
 // Inner step. What the table says of a block that is to have this number and to hold `size` bytes: 14 for the number or the check,
 // then 15 for the filling behind those bytes. A full block has none.
-pub fn judge_file_block(number: u32, size: usize, block: &[u8]) -> Verdict
-    requires { length block.now ≡ file_block_bytes }
+pub fn judge_file_block(
+    number: u32,
+    size: usize,
+    block: &[u8; FILE_BLOCK_BYTES],
+) -> Result<(), Refusal>
     ensures { result ≡ verdict (complaint (file_block_tests number size block.now)) }
 {
     let sealed = is_sealed(number, block);
     let filled = zeros_from(&block[CONTENT_AT..CHECK_AT], size);
-    if !sealed {
-        return Verdict::Refused(Reason::Check, Place::Nowhere);
-    }
-    if !filled {
-        return Verdict::Refused(Reason::Layout, Place::Nowhere);
-    }
-    Verdict::Fine
+    Reason::Check.when(!sealed)?;
+    Reason::Layout.when(!filled)
 }

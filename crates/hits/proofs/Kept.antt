@@ -14,7 +14,7 @@ use Rattle.scope.specs.Run.{cells_of}
 use Rattle.scope.specs.Hit.{is_hit, hits_from}
 use Rattle.scope.specs.Reply.{answered}
 use Rattle.scope.proofs.Hits.{hits_end, hits_at, hits_over}
-use Rattle.hits.specs.declared.Listing.TheVariants.{Done, More}
+use Rattle.std.specs.Prelude.{Some, None}
 use Rattle.hits.specs.Promise.{first, listed, written}
 use Rattle.search.specs.Inner.{FirstFrom}
 use Rattle.hits.specs.Inner.{ListsFrom}
@@ -38,15 +38,6 @@ module _ {run : Run} {source : Source} {start : ℕ} where
     same = k.same;
   }
 
-  -- past the last cell
-  pub kept_end : {before room : List ℕ} {n x : ℕ} (y : ℕ) → cells_of run ≤ x → cells_of run ≤ y → Kept run source start before room n x → Kept run source start before room n y
-  kept_end {before} {room} {n} {x} y h h' k = record {
-    hits = k.hits ∙ ap (λ l. take n room ++ l) (hits_end run source x h ∙ sym (hits_end run source y h'));
-    past = k.past;
-    count = k.count;
-    same = k.same;
-  }
-
   pub kept_write : {before room : List ℕ} {n x : ℕ} → n < length room → x < cells_of run → is_hit run source x ≡ true → Kept run source start before room n x → Kept run source start before (set room n x) (n + 1) (x + 1)
   kept_write {before} {room} {n} {x} h in' hit k = record {
     hits = k.hits ∙ rw (hits_at run source x in' hit, add-one n, add-one x, take-suc-set room n x h) (sym (append_assoc (take n room) (x ∷ []) (hits_from run source (suc x))));
@@ -56,7 +47,7 @@ module _ {run : Run} {source : Source} {start : ℕ} where
   }
 
   -- the room is full, and x is hit
-  pub kept_more : {before room : List ℕ} {n x : ℕ} → n ≡ length room → x < cells_of run → is_hit run source x ≡ true → Kept run source start before room n x → ListsFrom run source start before (More n (record { 0 = x })) room
+  pub kept_more : {before room : List ℕ} {n x : ℕ} → n ≡ length room → x < cells_of run → is_hit run source x ≡ true → Kept run source start before room n x → ListsFrom run source start before (record { count = n; next = Some (record { 0 = x }) }) room
   unfolding listed written
   kept_more {before} {room} {n} {x} e in' hit k =
       let rest = hits_from run source (suc x) in
@@ -71,7 +62,7 @@ module _ {run : Run} {source : Source} {start : ℕ} where
       }
 
   -- no hit is left
-  pub kept_done : {before room : List ℕ} {n x : ℕ} → cells_of run ≤ x → Kept run source start before room n x → ListsFrom run source start before (Done n) room
+  pub kept_done : {before room : List ℕ} {n x : ℕ} → cells_of run ≤ x → Kept run source start before room n x → ListsFrom run source start before (record { count = n; next = None }) room
   unfolding listed written
   kept_done {before} {room} {n} {x} out k =
       let all : hits_from run source start ≡ take n room = k.hits ∙ rw (hits_end run source x out, append-nil (take n room)) in

@@ -21,12 +21,12 @@ use Rattle.scope.specs.Run.{ValidRun, ValidSource, cells_of, line_of, offset_of}
 use Rattle.scope.specs.Hit.{is_hit}
 use Rattle.walk.specs.declared.LineHit.{LineHit}
 use Rattle.walk.specs.declared.Walk.{Walk}
-use Rattle.hits.specs.declared.Listing.TheVariants.{Done, More}
+use Rattle.std.specs.Prelude.{Some, None}
 use Rattle.hits.specs.Inner.{ListsFrom}
 use Rattle.walk.specs.Inner.{Leads, Stands, Walking, NextLine}
 use Rattle.search.proofs.Cells.{Points, rows_le, point_hit, hit_point, missed, own_line, inside_cells}
 use Rattle.walk.proofs.Walks.{apart_by, fits_at}
-use Rattle.hits.proofs.Kept.{Kept, kept_over, kept_end, kept_write, kept_more, kept_done}
+use Rattle.hits.proofs.Kept.{Kept, kept_over, kept_write, kept_more, kept_done}
 
 -- what stays
 pub record Fixed (run : Run) (source : Source) (all period : ℕ) (end : ℤ) (walk : Walk) : Type 0 where
@@ -210,29 +210,14 @@ module _ {run : Run} {source : Source} {start all period : ℕ} {end : ℤ} {wal
 
 -- ---- the ends
 
--- the hits written and those from `next` on are all; and if `next` is a cell of the run, it is hit and the room is full
-pub record Ended (run : Run) (source : Source) (start : ℕ) (before room : List ℕ) (n next : ℕ) : Type 0 where
-  pub kept : Kept run source start before room n next
-  pub full : next < cells_of run → n ≡ length room
-  pub hit : next < cells_of run → is_hit run source next ≡ true
-
 module _ {run : Run} {source : Source} {start all period : ℕ} {end : ℤ} {walk : Walk} (fixed : Fixed run source all period end walk) {before room : List ℕ} {n cell : ℕ} {at : LineHit} where
   -- the walk went past the last cell
-  pub ran_out : {offset : ℤ} → Head run source start before room n cell offset at → all ≤ cell → Ended run source start before room n all
-  ran_out h out =
-      let is = fixed.all_is in
-      record { kept = kept_end all (omega arith) (omega arith) h.kept; full = λ l. absurd (omega arith); hit = λ l. absurd (omega arith) }
+  pub ran_out : {offset : ℤ} → Head run source start before room n cell offset at → all ≤ cell → ListsFrom run source start before (record { count = n; next = None }) room
+  ran_out h out = let is = fixed.all_is in kept_done (omega arith) h.kept
 
   -- the room was full within a line
-  pub filled : {past : ℤ} (i : Inside run source start before room n cell past at) → i.e < run.window → n ≡ length room → Ended run source start before room n cell
-  filled i in' e = record { kept = kept_here fixed i in'; full = λ l. e; hit = λ l. cell_hit fixed i in' }
-
-module _ {run : Run} {source : Source} {start : ℕ} {before room : List ℕ} {n next : ℕ} (ended : Ended run source start before room n next) where
-  pub says_more : next < cells_of run → ListsFrom run source start before (More n (record { 0 = next })) room
-  says_more h = kept_more (ended.full h) h (ended.hit h) ended.kept
-
-  pub says_done : cells_of run ≤ next → ListsFrom run source start before (Done n) room
-  says_done h = kept_done h ended.kept
+  pub filled : {past : ℤ} (i : Inside run source start before room n cell past at) → i.e < run.window → n ≡ length room → ListsFrom run source start before (record { count = n; next = Some (record { 0 = cell }) }) room
+  filled i in' e = kept_more e (cell_in fixed i in') (cell_hit fixed i in') (kept_here fixed i in')
 
 -- the walk gets on: from a hit of a line to one of a later line
 pub gets_on : {run : Run} {source : Source} {at to : LineHit} {cell : ℕ} {offset : ℤ} → ValidRun run → Running run source at cell offset → NextLine run source at to → cell < to.cell.0

@@ -1,25 +1,16 @@
 -- What the steps of the list program's reading are held to.
-use Rattle.std.specs.Prelude.{ℕ, ◌≤◌, ◌<◌, ◌≡◌, ℤ, pos, negsuc, Result, Ok, Err}
-use Rattle.std.specs.Counts.{clamp_len}
+use Rattle.std.specs.Prelude.{ℕ, ◌≤◌, ◌<◌, ◌≡◌, List, length, take, Option}
+use Rattle.std.specs.Io.KnownBytes.{Consumes, IsAtEnd}
 use Rattle.list.specs.declared.Reading.{Reading}
-use Rattle.list.specs.declared.Input.{Input}
-use Rattle.list.specs.declared.Input.TheVariants.{Text, Failed}
-
--- A read's answer as one number: how many bytes it brought, or -1 where it failed.
-unfoldable pub answer_of : {E : Type 0} → Result ℕ E → ℤ
-answer_of (Ok count) = pos count
-answer_of (Err e) = negsuc 0
 
 -- The reading stopped because the room was full, or because the last read brought nothing.
 pub record Stopped (room : ℕ) (reading : Reading) : Type 0 where
   pub within : reading.count ≤ room
-  pub why : reading.count < room → clamp_len reading.last room ≡ 0
+  pub why : reading.count < room → reading.last ≡ 0
 
--- The bytes are a text if the last read answered with a number, and none if it failed.
-unfoldable pub input_from : ℕ → ℤ → Input
-input_from count (pos n) = Text count
-input_from count (negsuc n) = Failed
-
--- The same of a reading.
-unfoldable pub input_of : Reading → Input
-input_of reading = input_from reading.count reading.last
+-- So many bytes of a room were read into its front, the next that the input had; the reading stopped because the room was full, or because
+-- the input had no more.
+pub record ReadIn (before after : Option (List ℕ)) (count : ℕ) (room : List ℕ) : Type 0 where
+  pub within : count ≤ length room
+  pub read : Consumes before after (take count room)
+  pub stopped : count < length room → IsAtEnd after

@@ -3,112 +3,96 @@
 // nothing is printed. A read that a signal interrupts counts as one that failed.
 #![tactic(auto)]
 
-ghost use Rattle.std.specs.Prelude.{◌≡◌, ◌<◌, ◌^◌, length, IfOk};
-ghost use Rattle.std.specs.Counts.{clamp_len};
-ghost use Rattle.rooms.specs.Lists.{zeros};
+ghost use Rattle.std.specs.Prelude.{◌≡◌, length, IfOk, OnOk, IsErrOf};
+ghost use Rattle.std.specs.Io.KnownBytes.{Appends};
 ghost use Rattle.report.specs.Promise.{PrintedOf};
-ghost use Rattle.list.specs.Reading.{Whole};
-ghost use Rattle.list.specs.Inner.{Stopped, answer_of, input_of};
+ghost use Rattle.list.specs.Reading.{Whole, Listed};
+ghost use Rattle.list.specs.Inner.{Stopped, ReadIn};
 
-use std::io;
-use std::io::{Print, Read};
+use report::Output;
+use std::io::{Read, Write};
+use std::{fmt, io};
 
-// What was read: so many bytes, and what the last read answered.
+// Room for the longest text and one byte more, so that a longer text is seen: `Whole` holds the number to 01's.
+const ROOM: usize = 4097;
+
+// What failed.
+#[derive(Clone, Copy)]
+enum Failure {
+    // A read: there is no whole text, and nothing is printed.
+    Reading,
+    // A write: the report is not whole.
+    Writing,
+}
+
+impl fmt::Display for Failure {
+    fn fmt<W: fmt::Write>(&self, f: &mut fmt::Formatter<W>) -> fmt::Result {
+        match self {
+            Failure::Reading => write!(f, "reading standard input failed"),
+            Failure::Writing => write!(f, "writing the report failed"),
+        }
+    }
+}
+
+// What was read: so many bytes, and how many of them the last read brought, by which `Whole` goes.
 #[derive(Clone, Copy)]
 struct Reading {
     count: usize,
-    last: isize,
+    last: usize,
 }
 
-// What came of it: a text of so many bytes, or none, since a read failed.
-#[derive(Clone, Copy)]
-enum Input {
-    Text(usize),
-    Failed,
-}
-
-// Room for the longest text and one byte more, so that a longer text is seen.
-fn text_room() -> [u8; 4097]
-    ensures { result ≡ zeros 4097 }
+// Reads until the room is full or a read brings nothing. The first read that fails ends it. A read tells how many bytes it brought, so
+// that no range counts the turns.
+fn read_input<R: Read>(input: &mut R, room: &mut [u8]) -> io::Result<Reading>
+    ensures read { IfOk result (λ reading. ReadIn (R.remaining input.old) (R.remaining input.new) reading.count room.new) }
+    ensures stopped { IfOk result (Stopped (length room.new)) }
 {
-    [0; 4097]
-}
-
-// What a read answered, as one number: how many bytes it brought, or -1 where it failed.
-fn answer_of(got: io::Result<usize>) -> isize
-    requires { IfOk got (λ count. count < 2 ^ 63) }
-    ensures { result ≡ answer_of got }
-{
-    match got {
-        Ok(count) => count as isize,
-        Err(_) => -1,
-    }
-}
-
-// How many bytes of the room a read that answered so brought.
-fn brought(answer: isize, room: &[u8]) -> usize
-    ensures { result ≡ clamp_len answer (length room.now) }
-{
-    if answer < 0 {
-        return 0;
-    }
-    room.len().min(answer as usize)
-}
-
-// Reads until the room is full or a read brings nothing: at the end of the input, or because it failed.
-fn read_input(rt: &HostRuntime, room: &mut [u8]) -> Reading
-    ensures { Stopped (length room.new) result }
-{
-    let mut input = rt.stdin();
     let mut count = 0;
-    let mut last: isize = 0;
+    let mut last = 0;
     while count < room.len() {
-        last = answer_of(input.read(&mut room[count..]));
-        let more = brought(last, room);
-        if more == 0 {
+        last = input.read(&mut room[count..])?;
+        if last == 0 {
             break;
         }
-        count += more;
+        count += last;
     }
-    Reading { count, last }
-}
-
-// The bytes read are a text only if no read failed.
-fn input_of(reading: Reading) -> Input
-    ensures { result ≡ input_of reading }
-{
-    let last = reading.last;
-    if last < 0 {
-        return Input::Failed;
-    }
-    Input::Text(reading.count)
-}
-
-// Tells on standard error what went wrong.
-fn complain(rt: &HostRuntime, words: &[u8]) {
-    let _ = rt.stderr().write_all(words);
+    Ok(Reading { count, last })
 }
 
 // Writes the bytes, which are what is printed of the text. How that was read is given for the contract alone.
-fn print(rt: &HostRuntime, reading: Reading, text: &[u8], bytes: &[u8])
+fn print<W: Write>(
+    output: &mut W,
+    reading: Reading,
+    text: &[u8],
+    bytes: &[u8],
+) -> Result<(), Failure>
     requires whole { Whole reading text.now }
     requires printed { PrintedOf text.now bytes.now }
+    ensures written { OnOk result (Appends (W.contents output.old) (W.contents output.new) bytes.now) }
+    ensures wrote { IsErrOf result Failure.Reading → ⊥ }
 {
-    if rt.write_all(bytes).is_err() {
-        complain(rt, b"list: writing the report failed\n");
-    }
+    output.write_all(bytes).map_err(|_| Failure::Writing)
 }
 
-// Reads the text, and prints what is printed of it.
-fn main(rt: HostRuntime) {
-    let mut text = text_room();
-    let reading = read_input(&rt, &mut text);
-    let Input::Text(count) = input_of(reading) else {
-        complain(&rt, b"list: reading standard input failed\n");
-        return;
+// Reads the text, and writes what is printed of it. The room is an array, since there is no heap. The failed read is told by let .. else: by
+// `map_err` and `?` it was tried, and the proof lost what was read.
+fn list<R: Read, W: Write>(input: &mut R, output: &mut W) -> Result<(), Failure>
+    ensures listed { OnOk result (Listed (R.remaining input.old) (R.remaining input.new) (W.contents output.old) (W.contents output.new)) }
+    ensures unread { IsErrOf result Failure.Reading → output.new ≡ output.old }
+{
+    let mut text = [0u8; ROOM];
+    let Ok(reading) = read_input(input, &mut text) else {
+        return Err(Failure::Reading);
     };
-    let output = report::report(&text[..count]);
-    let length = output.length;
-    let bytes = output.bytes;
-    print(&rt, reading, &text[..count], &bytes[..length]);
+    let text = &text[..reading.count];
+    let Output { length, bytes } = report::report(text);
+    print(output, reading, text, &bytes[..length])
+}
+
+fn main(rt: HostRuntime) {
+    let mut input = rt.stdin();
+    let mut output = rt.stdout();
+    if let Err(failure) = list(&mut input, &mut output) {
+        let _ = eprintln!(rt; "list: {failure}");
+    }
 }

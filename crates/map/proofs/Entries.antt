@@ -15,7 +15,7 @@ use Rattle.scope.specs.Run.{ValidRun, UpTo, shift_of}
 use Rattle.scope.proofs.Numbering.{IsBlock}
 use Rattle.scope.proofs.Hits.{hit_shift}
 use Rattle.map.specs.Sum.{capped, raised}
-use Rattle.sources.specs.Entry.{Entry}
+use Rattle.sources.specs.declared.Entry.{Entry}
 pub use Rattle.sources.specs.Lists.{ValidEntry, ValidEntries}
 pub use Rattle.sources.proofs.Entries.{entries_length, entries_from, valid_entries, valid_entries_pass}
 use Rattle.map.specs.Promise.{weight_at, added}

@@ -10,7 +10,7 @@ use Rattle.rooms.specs.Lists.{UpTo, zeros}
 use Rattle.rooms.proofs.Lists.{length_zeros, take_zeros, drop_zeros}
 use Rattle.scope.specs.declared.Run.{Run}
 use Rattle.scope.specs.Run.{cells_of}
-use Rattle.sources.specs.Entry.{Entry}
+use Rattle.sources.specs.declared.Entry.{Entry}
 use Rattle.map.specs.declared.Start.{Start}
 use Rattle.map.specs.declared.Start.TheVariants.{Clean, AsLent}
 use Rattle.map.specs.Sum.{raised, summed}

@@ -5,11 +5,12 @@ use Prim.Native.Nat.{ℕ, zero, suc, ◌+◌, ◌-◌, ◌≤◌, ◌<◌}
 use native.Mathlib.Nat.{add-zero, add-suc, zero-add, suc-add}
 use native.Mathlib.Omega.{arith}
 use mathlib.Core.Path.{◌≡◌, refl, sym, ap, ap₂, ◌∙◌, subst}
-use mathlib.Core.Logic.{◌⊎◌, inl, inr, ⊎_elim}
+use mathlib.Core.Logic.{⊎_elim}
 use mathlib.Core.List.{List, [], ◌∷◌, ◌++◌}
 use lib.ListN.{length, get_or, take, drop, set, length-set, length-drop, get_or-append}
 use lib.Seq.{ext_get_or, get_or-set_same, get_or-set_other, get_or-take, get_or-drop, get_or-append-add, length-take-le}
 use borrow.Rule.Slice.PartMut.{put_mid, same_len_mid}
+use Rattle.std.proofs.lemmas.Bool.{cases_lt}
 use Rattle.scope.specs.Run.{UpTo}
 use Rattle.map.specs.Sum.{capped, raised}
 use Rattle.map.specs.Inner.{RaisedFrom, RaisedIn}
@@ -93,12 +94,6 @@ module _ (cells part : List ℕ) (a k : ℕ) (fits : a + k ≤ length cells) (as
       get_or-append-add (take a cells) _ (length part + i) 0 ∙ get_or-append-add part _ i 0 in
       (rw (front, as_many) at here) ∙ get_or-drop k (drop a cells) i 0 ∙ get_or-drop a cells (k + i) 0
 
--- the order of two numbers, decided
-pub split : (a b : ℕ) → (a < b) ⊎ (b ≤ a)
-split a zero = inr (omega arith)
-split zero (suc b) = inl (omega arith)
-split (suc a) (suc b) = ⊎_elim (λ h. inl (omega arith)) (λ h. inr (omega arith)) (split a b)
-
 module _ {c : ℕ} {gain : ℕ → ℕ} {old : List ℕ} {from x : ℕ} {cells : List ℕ} (so_far : RaisedIn c gain old from x cells) where
   -- cells that gain nothing are passed over
   pub over : {y : ℕ} → UpTo c old → x ≤ y → ((i : ℕ) → x ≤ i → i < y → gain i ≡ 0) → RaisedIn c gain old from y cells
@@ -109,7 +104,7 @@ module _ {c : ℕ} {gain : ℕ → ℕ} {old : List ℕ} {from x : ℕ} {cells :
         within = λ i from_here below_y inside. ⊎_elim
             (λ below_x. so_far.within i from_here below_x inside)
             (λ from_x. so_far.above i from_x ∙ sym (ap (λ n. capped c (get_or old i 0 + n)) (none i from_x below_y) ∙ ap (capped c) (add-zero _) ∙ capped_below c (small i)))
-            (split i x);
+            (cases_lt i x);
         above = λ i k. so_far.above i (omega arith);
       }
 
@@ -125,7 +120,7 @@ module _ {c : ℕ} {gain : ℕ → ℕ} {old : List ℕ} {from x : ℕ} {cells :
             (λ from_x.
             let z : i ≡ x = omega arith in
             rw z (get_or-set_same cells x v 0 (omega arith) ∙ e ∙ ap (λ n. capped c (n + gain x)) (so_far.above x (omega arith))))
-            (split i x);
+            (cases_lt i x);
         above = λ i k. get_or-set_other cells x i v 0 (λ z. omega arith) ∙ so_far.above i (omega arith);
       }
 
@@ -139,7 +134,7 @@ module _ {c : ℕ} {gain : ℕ → ℕ} {old : List ℕ} {from x : ℕ} {cells :
         within = λ i from_here below_y inside. ⊎_elim
             (λ below_x. then.below i below_x ∙ so_far.within i from_here below_x inside)
             (λ from_x. then.within i from_x below_y (omega arith) ∙ ap (λ n. capped c (n + gain i)) (so_far.above i from_x))
-            (split i x);
+            (cases_lt i x);
         above = λ i k. then.above i k ∙ so_far.above i (omega arith);
       }
 
@@ -187,7 +182,7 @@ module _ {c : ℕ} {gain : ℕ → ℕ} {start old : List ℕ} {x : ℕ} {cells 
             (λ from.
             let z : i ≡ x + (i - x) = omega arith in
             subst (λ n. get_or (put_mid x k cells part) n 0 ≡ capped c (get_or start n 0 + gain n)) (sym z) (inside (i - x) (omega arith)))
-            (split i x);
+            (cases_lt i x);
         above = λ i h.
             let z : i ≡ x + (k + (i - y)) = omega arith in
             subst (λ n. get_or (put_mid x k cells part) n 0 ≡ get_or old n 0) (sym z) (put_after cells part x k room long (i - y) ∙ so_far.above _ (omega arith));

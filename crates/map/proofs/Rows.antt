@@ -1,7 +1,7 @@
 -- Laws of a source's hits on one line, which lie a period apart, and of its distance from a line to the next.
 -- Assumes nothing.
-use Prim.Native.Nat.{ℕ, suc, ◌+◌, ◌-◌, ◌*◌, ◌/◌, ◌%◌, ◌≤◌, ◌<◌}
-use native.Mathlib.Nat.{div-add-mod', mod-lt, mod-eq_of_lt, mul-le-mul_right, add-mod_right, mod-eq-sub-mod, add-zero, mod-add-mod, add-mul-mod_self_right, add-mul-div_right, div-eq_of_lt}
+use Prim.Native.Nat.{ℕ, ◌+◌, ◌-◌, ◌*◌, ◌/◌, ◌%◌, ◌≤◌, ◌<◌}
+use native.Mathlib.Nat.{div-add-mod', mod-lt, mod-eq_of_lt, mul-le-mul_right, add-mod_right, mod-eq-sub-mod, add-zero, div-mul-le_self, mul-div_cancel_left, mod-add-mod, add-mul-mod_self_right, add-mul-div_right, div-eq_of_lt}
 use native.Mathlib.Decide.{dec_lt}
 use native.Mathlib.Omega.{arith}
 use mathlib.Core.Path.{◌≡◌, sym, ap, ◌∙◌}
@@ -98,59 +98,51 @@ row_gain_lem run source s weight start x e =
     (hit_or_miss (is_hit run source x)))
 
 -- so many whole lines of a map are done
-pub record Rows (c weight : ℕ) (old : List ℕ) (window period step first : ℕ) (map : List ℕ) (start base : ℕ) : Type 0 where
-  pub lines : ℕ
+pub record Rows (c weight : ℕ) (old : List ℕ) (window period step first : ℕ) (map : List ℕ) (start line : ℕ) : Type 0 where
   pub all : ℕ
   pub whole : length old ≡ window * all
   pub some : 0 < window
-  pub narrow : window ≤ 4096
-  pub short : period ≤ 2147483647
   pub moves : step < period
-  pub base_is : base ≡ lines * window
-  pub start_is : start ≡ (first + lines * step) % period
+  pub start_is : start ≡ (first + line * step) % period
   pub small : UpTo c old
-  pub done : RaisedBelow c (row_gain window period step first weight) old base map
+  pub done : RaisedBelow c (row_gain window period step first weight) old (line * window) map
 
-module _ {c weight : ℕ} {old : List ℕ} {window period step first : ℕ} {map : List ℕ} {start base : ℕ} (rows : Rows c weight old window period step first map start base) where
+module _ {c weight : ℕ} {old : List ℕ} {window period step first : ℕ} {map : List ℕ} {start line : ℕ} (rows : Rows c weight old window period step first map start line) where
   -- a line is left: it is there as a whole
-  pub line_left : base < length map → base + window ≤ length map
-  line_left h = go (dec_lt rows.lines rows.all)
-    where
-      go : Dec (rows.lines < rows.all) → base + window ≤ length map
-      go (yes k) = omega (arith, rows.whole, rows.base_is, rows.done.as_long, mul-le-mul_right window k)
-      go (no k) =
-          let l : rows.all ≤ rows.lines = omega arith in
-          absurd (omega (arith, rows.whole, rows.base_is, rows.done.as_long, mul-le-mul_right window l))
+  pub line_left : line < length old / window → line * window + window ≤ length map
+  line_left h = omega (arith, rows.done.as_long, div-mul-le_self (length old) window, mul-le-mul_right window h)
+
+  -- none is left: all cells are done
+  pub no_line_left : length old / window ≤ line → length old ≤ line * window
+  no_line_left h =
+      let lines : length old / window ≡ rows.all = ap (λ n. n / window) rows.whole ∙ mul-div_cancel_left rows.all rows.some in
+      omega (arith, rows.whole, mul-le-mul_right window (rw lines at h))
 
   pub start_below : start < period
   start_below = let m = rows.moves in rw rows.start_is (mod-lt _ (omega arith))
 
   -- one more line
-  pub next_row : {part : List ℕ} {next : ℕ} → base < length map → next ≡ (start + step) % period → part ≡ raised c (spaced period start weight) 0 (take (base + window - base) (drop base map)) → Rows c weight old window period step first (put_mid base (base + window - base) map part) next (base + window)
+  pub next_row : {part : List ℕ} {next : ℕ} → line < length old / window → next ≡ (start + step) % period → part ≡ raised c (spaced period start weight) 0 (take (line * window + window - line * window) (drop (line * window) map)) → Rows c weight old window period step first (put_mid (line * window) (line * window + window - line * window) map part) next (line + 1)
   unfolding row_gain
   next_row {part} {next} h f put =
-      let n = rows.lines in
       let room = line_left h in
       let l = rows.done.as_long in
-      let line : (i : ℕ) → i < window → (i + base) / window ≡ n =
-      λ i j. rw (rows.base_is, add-mul-div_right i n {z = window} rows.some, div-eq_of_lt j) (omega arith) in
-      let across : (i : ℕ) → i < window → (i + base) % window ≡ i =
-      λ i j. rw rows.base_is (add-mul-mod_self_right i n window ∙ mod-eq_of_lt j) in
+      let here : (i : ℕ) → i < window → (i + line * window) / window ≡ line =
+      λ i j. rw (add-mul-div_right i line {z = window} rows.some, div-eq_of_lt j) (omega arith) in
+      let across : (i : ℕ) → i < window → (i + line * window) % window ≡ i =
+      λ i j. add-mul-mod_self_right i line window ∙ mod-eq_of_lt j in
       record {
-        lines = suc n;
         all = rows.all;
         whole = rows.whole;
         some = rows.some;
-        narrow = rows.narrow;
-        short = rows.short;
         moves = rows.moves;
-        base_is = omega (arith, rows.base_is);
-        start_is = f ∙ rw rows.start_is (mod-add-mod (first + n * step) period step ∙ ap (λ m. m % period) (omega arith));
+        start_is = f ∙ rw rows.start_is (mod-add-mod (first + line * step) period step ∙ ap (λ m. m % period) (omega arith));
         small = rows.small;
-        done = patch rows.done (spaced period start weight) (omega arith) (omega arith) put (λ i (j : i < base + window - base). let inside : i < window = omega arith in rw (line i inside, across i inside, ← rows.start_is));
+        done = patch rows.done (spaced period start weight) (omega arith) (omega arith) put (λ i (j : i < line * window + window - line * window). let inside : i < window = omega arith in rw (here i inside, across i inside, ← rows.start_is));
       }
 
-pub rows_start : {c window period step first : ℕ} (weight : ℕ) (old : List ℕ) (all : ℕ) → length old ≡ window * all → 0 < window → window ≤ 4096 → period ≤ 2147483647 → step < period → first < period → UpTo c old → Rows c weight old window period step first old first 0
-rows_start {c} {window} {period} {step} {first} weight old all whole some narrow short moves low small =
+pub rows_start : {c window period step first : ℕ} (weight : ℕ) (old : List ℕ) (all : ℕ) → length old ≡ window * all → 0 < window → step < period → first < period → UpTo c old → Rows c weight old window period step first old first 0
+rows_start {c} {window} {period} {step} {first} weight old all whole some moves low small =
     let none : first + 0 * step ≡ first = omega arith in
-    record { lines = 0; all = all; whole = whole; some = some; narrow = narrow; short = short; moves = moves; base_is = omega arith; start_is = sym (rw none (mod-eq_of_lt low)); small = small; done = starts c _ old 0 }
+    let zero' : 0 * window ≡ 0 = omega arith in
+    record { all = all; whole = whole; some = some; moves = moves; start_is = sym (rw none (mod-eq_of_lt low)); small = small; done = rw zero' (starts c _ old 0) }

@@ -11,6 +11,7 @@ use lib.ListN.{length, get_or, set}
 use lib.Signed.{◌<ℤ◌, lt_z}
 use mir.Syntax.{w64}
 use mir.Val.{to_z, of_z}
+use Rattle.std.proofs.lemmas.Bool.{cases_lt}
 use Rattle.scope.specs.declared.Run.{Run}
 use Rattle.scope.specs.declared.Source.{Source}
 use Rattle.scope.specs.Run.{ceiling, UpTo, cells_of, line_of, offset_of}
@@ -24,7 +25,7 @@ use Rattle.walk.proofs.Walks.{out_true, out_false}
 use Rattle.map.specs.Sum.{capped}
 use Rattle.map.specs.Promise.{weight_at}
 use Rattle.map.specs.Inner.{only, RaisedIn, Crosses, AddedLeft}
-use Rattle.map.proofs.Raised.{RaisedBelow, starts, over, store, joined, split}
+use Rattle.map.proofs.Raised.{RaisedBelow, starts, over, store, joined}
 
 hit_weighs : (run : Run) (source : Source) (weight x : ℕ) → is_hit run source x ≡ true → weight_at run (only source weight) x ≡ weight
 unfolding weight_at
@@ -48,9 +49,6 @@ pub record Leftward (run : Run) (source : Source) (walk : Walk) (weight : ℕ) (
   pub left : (x : ℕ) → from.cell.0 ≤ x → x < at.cell.0 → is_hit run source x ≡ true → offset_of run x <ℤ walk.low → ⊥
 
 module _ {run : Run} {source : Source} {walk : Walk} {from : LineHit} {old : List ℕ} (crosses : Crosses run source walk from old) (weight : ℕ) where
-  pub left_starts : Leftward run source walk weight from from old old
-  left_starts = record { on = omega arith; done = starts ceiling _ old from.cell.0; stands = crosses.stands; left = λ x low high. absurd (omega arith) }
-
   -- on the line of a hit no other cell is hit
   alone : (x z : ℕ) → is_hit run source x ≡ true → x < z → line_of run x ≡ line_of run z → is_hit run source z ≡ false
   alone x z h less same = go (hit_or_miss (is_hit run source z))
@@ -122,8 +120,8 @@ module _ {run : Run} {source : Source} {walk : Walk} {from : LineHit} {old : Lis
                 (λ not_before. ⊎_elim
                 (λ beyond. absurd (hit_not_missed run source x hit (none x beyond high)))
                 (λ not_beyond. let same : x ≡ at.cell.0 = omega arith in leftward (subst (λ i. i <ℤ walk.low) (sym (here inside).offset) (rw same at right)))
-                (split at.cell.0 x))
-                (split x at.cell.0);
+                (cases_lt at.cell.0 x))
+                (cases_lt x at.cell.0);
           }
 
       -- or it turns, and that is all
@@ -139,7 +137,7 @@ module _ {run : Run} {source : Source} {walk : Walk} {from : LineHit} {old : Lis
             turns = λ x y low less high hit turned. ⊎_elim
                 (λ before. absurd (so_far.left x low before hit turned))
                 (λ not_before. none y (omega arith) high)
-                (split x at.cell.0);
+                (cases_lt x at.cell.0);
             stops = λ _. (at.cell.0, so_far.on, next.rises, (here inside).hit, subst (λ i. i <ℤ walk.low) (here inside).offset right, none);
           }
 
@@ -177,4 +175,4 @@ walk_rises {run} {source} {walk} {weight} {map} {after} {at} {to} more inside =
     ⊎_elim
     (λ within. let s = more.stops within in omega (arith, s.1, s.2))
     (λ past. omega arith)
-    (split to.cell.0 (length map))
+    (cases_lt to.cell.0 (length map))

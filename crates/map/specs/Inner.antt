@@ -1,28 +1,27 @@
 -- What the inner steps of the map calls speak of besides 01's words.
-use Rattle.std.specs.Prelude.{ℕ, ◌+◌, ◌%◌, ◌≤◌, ◌<◌, min, ◌≡◌, true, false, cond, List, [], ◌∷◌, ltb, leb, eqb, length, get_or, ◌<ℤ◌}
+use Rattle.std.specs.Prelude.{ℕ, ◌+◌, ◌%◌, ◌≤◌, ◌<◌, ◌≡◌, true, false, cond, List, [], ◌∷◌, ltb, leb, eqb, length, get_or, ◌<ℤ◌, Result}
 use Rattle.std.proofs.Math.Option.{none}
 use Rattle.rooms.specs.Lists.{zeros}
 use Rattle.scope.specs.declared.Run.{Run}
 use Rattle.scope.specs.declared.Source.{Source}
 use Rattle.scope.specs.Run.{ValidRun, ValidSource, ceiling, cells_of, offset_of}
 use Rattle.scope.specs.Hit.{is_hit}
+use Rattle.scope.specs.declared.Refusal.{Refusal}
 use Rattle.scope.specs.Refusal.{complaint}
-use Rattle.sources.specs.Entry.{Entry, entries_of, list_tests}
-use Rattle.sources.specs.Lists.{OneLength}
+use Rattle.sources.specs.declared.Entry.{Entry}
+use Rattle.sources.specs.Entry.{entries_of, list_tests}
 use Rattle.walk.specs.declared.Walk.{Walk}
 use Rattle.walk.specs.declared.LineHit.{LineHit}
 use Rattle.walk.specs.Inner.{Leads, Stands}
-use Rattle.map.specs.declared.Mapped.{Mapped}
 use Rattle.map.specs.declared.Start.{Start}
 use Rattle.map.specs.declared.Start.TheVariants.{Clean, AsLent}
 use Rattle.map.specs.Sum.{capped}
 use Rattle.map.specs.Promise.{weight_at, added, MapCallAt}
 
--- What is looked at before the first store: the run, the three lists and the map's length are in order.
-pub record ValidCall (run : Run) (periods weights phases map : List ℕ) : Type 0 where
+-- What is looked at before the first store: the run, the sources and the map's length are in order.
+pub record ValidCall (run : Run) (sources : List Entry) (map : List ℕ) : Type 0 where
   pub valid : ValidRun run
-  pub equal : OneLength periods weights phases
-  pub sound : complaint (list_tests ceiling 1 (entries_of periods weights phases)) ≡ none
+  pub sound : complaint (list_tests ceiling 1 sources) ≡ none
   pub whole : length map ≡ cells_of run
 
 -- The cells that a call starts from: zeros, or the cells as they were lent.
@@ -31,7 +30,7 @@ start_of Clean map = zeros (length map)
 start_of AsLent map = map
 
 -- What `map_call` keeps: the new cells are what the sources make of what the map starts from.
-abbrev pub CallFrom : Start → Run → (periods weights phases map : List ℕ) → Mapped → List ℕ → Type 0
+abbrev pub CallFrom : Start → Run → (periods weights phases map : List ℕ) → Result (Unit {0}) Refusal → List ℕ → Type 0
 CallFrom start run periods weights phases map answer after = MapCallAt ceiling run periods weights phases map (added ceiling run (entries_of periods weights phases) (start_of start map)) answer after
 
 -- The entries whose period is at least `low` and below `high`.
@@ -44,11 +43,6 @@ chosen low high (entry ∷ entries) =
 -- What the cell at distance d from the left edge of a line gains from a source whose first hit there is at distance `start`.
 unfoldable pub spaced : ℕ → ℕ → ℕ → ℕ → ℕ
 spaced period start weight d = cond (eqb (d % period) start) weight 0
-
--- The shortest of some periods, or 2,147,483,648, which is above them all.
-unfoldable pub shortest_of : List ℕ → ℕ
-shortest_of [] = 2147483648
-shortest_of (period ∷ periods) = min period (shortest_of periods)
 
 -- One source, as a list of entries.
 abbrev pub only : Source → ℕ → List Entry

@@ -5,8 +5,8 @@ use mathlib.Core.Path.{◌≡◌}
 use mathlib.Core.Bool.{Bool, true, false, cond}
 use mathlib.Core.List.{List, [], ◌∷◌, ◌++◌}
 use lib.Dec.{eqb}
-use lib.ListN.{length, length-append}
-use Rattle.text.specs.Promise.{most_sources, most_cells}
+use lib.ListN.{length, take, length-append, length-take}
+use Rattle.text.specs.Promise.{most_cells, sources_in}
 use Rattle.decimal.specs.Digits.{largest, digits}
 use Rattle.decimal.proofs.Laws.{length_le}
 use Rattle.words.proofs.Writing.{line_long}
@@ -14,10 +14,12 @@ use Rattle.scope.specs.declared.Run.{Run}
 use Rattle.rooms.specs.Lists.{UpTo}
 use Rattle.scope.specs.Run.{ValidRun, ceiling, cells_of}
 use Rattle.scope.specs.Hit.{hits_from}
-use Rattle.sources.specs.Entry.{Entry, entries_of}
+use Rattle.sources.specs.declared.Entry.{Entry}
+use Rattle.text.specs.declared.Input.{Input}
 use Rattle.words.specs.Line.{fields, line}
 use Rattle.text.specs.Form.{src_word, run_word, run_numbers}
-use Rattle.map.proofs.Entries.{ValidEntries, valid_entries}
+use Rattle.sources.specs.Lists.{ValidEntries}
+use Rattle.sources.proofs.Entries.{entries_few, valid_entries}
 use Rattle.map.proofs.Made.{made_length, made_within}
 use Rattle.report.specs.Report.{map_word, end_word, run_report, entry_report, src_report, cell_report, map_report, above, end_report, reported_map, cells_report, whole_report}
 use Rattle.report.specs.Inner.{ValidInput}
@@ -100,19 +102,29 @@ run_long {run} v few =
     (up_to (run_numbers run ++ (cells_of run ∷ []))
     (omega (arith, v.wide), (omega (arith, v.fits), (omega (arith, v.ordered, v.ends), (omega (arith, v.ends), (omega arith, tt))))))
 
-pub whole_long : {run : Run} {periods weights phases : List ℕ} → ValidInput run periods weights phases → length (entries_of periods weights phases) ≤ most_sources
-    → length (whole_report run (entries_of periods weights phases)) ≤ 921354
+-- there are no more sources than are counted
+sources_few : (input : Input) → length (sources_in input) ≤ input.count
+sources_few input =
+    omega (
+      arith,
+      entries_few (take input.count input.periods) (take input.count input.weights) (take input.count input.phases),
+      length-take input.count input.periods,
+    )
+
+pub whole_long : {input : Input} → ValidInput input → length (whole_report input.run (sources_in input)) ≤ 921354
 unfolding whole_report cells_report end_report
-whole_long {run} {periods} {weights} {phases} a few =
-    let es = entries_of periods weights phases in
+whole_long {input} a =
+    let run = input.run in
+    let es = sources_in input in
     let m = reported_map run es in
+    let few = sources_few input in
     let cells = map_long run es in
     let r = run_long a.valid a.few in
-    let s = sources_long run 1 es a.few (omega arith) (valid_entries ceiling 1 es (record { is = a.sound })) in
+    let s = sources_long run 1 es a.few (omega (arith, a.counted)) (valid_entries ceiling 1 es (record { is = a.sound })) in
     let l = cells_long 0 m (omega (arith, a.few)) (map_within run es) in
     let n = above_few m in
     let e = line_long end_word (above m ∷ []) (up_to (above m ∷ []) (omega (arith, a.few), tt)) in
     let whole = length-append (run_report run) (src_report run 1 es ++ (map_report 0 m ++ line end_word (above m ∷ []))) in
     let rest = length-append (src_report run 1 es) (map_report 0 m ++ line end_word (above m ∷ [])) in
     let last = length-append (map_report 0 m) (line end_word (above m ∷ [])) in
-    omega (arith, a.few)
+    omega (arith, a.few, a.counted)

@@ -1,44 +1,41 @@
 -- The output of a text: from what was written into the blank room, and from what the text says. Assumes nothing.
-use Prim.Native.Nat.{ℕ, ◌+◌, ◌-◌, ◌≤◌, ◌<◌, ◌^◌}
+use Prim.Native.Nat.{ℕ, ◌+◌, ◌≤◌, ◌<◌, ◌^◌}
 use native.Mathlib.Omega.{arith}
 use native.Mathlib.Nat.{zero-add}
 use mathlib.Core.Path.{◌≡◌, refl, sym, ap, ◌∙◌, subst}
 use mathlib.Core.List.{List, [], ◌∷◌, ◌++◌}
-use lib.ListN.{length, take, drop, length-take, length-append}
-use lib.Seq.{length-take-le}
+use lib.ListN.{length, drop, length-append}
 use borrow.Author.Tests.{ltb-false}
-use Rattle.rooms.specs.Lists.{zeros, padded}
+use Rattle.rooms.specs.Lists.{zeros}
 use Rattle.rooms.specs.Inner.{Written}
-use Rattle.rooms.proofs.Lists.{padded_within, padded_is}
-use Rattle.rooms.proofs.Written.{written_append}
+use Rattle.rooms.proofs.Lists.{length_zeros, padded_is}
+use Rattle.rooms.proofs.Written.{written_length}
 use Rattle.decimal.specs.Digits.{digits}
 use Rattle.decimal.proofs.Laws.{length_le}
-use Rattle.scope.specs.declared.Reason.{Reason}
-use Rattle.scope.specs.declared.Place.{Place}
-use Rattle.scope.specs.declared.Place.TheVariants.{AtSource}
+use Rattle.std.specs.Prelude.{Ok, Err}
+use Rattle.scope.specs.declared.Refusal.{Refusal}
+use Rattle.scope.specs.declared.Place.TheVariants.{Nowhere, AtSource}
 use Rattle.scope.specs.Refusal.{number}
-use Rattle.scope.specs.declared.Run.{Run}
 use Rattle.scope.specs.Run.{cells_of}
-use Rattle.sources.specs.Entry.{entries_of}
-use Rattle.scope.specs.Reply.{refused, answered}
 use Rattle.scope.proofs.Judged.{Passes}
 use Rattle.scope.proofs.Limits.{passes_when, passes_first, passes_then, valid_run}
-use Rattle.sources.proofs.Entries.{periods_length, weights_length, phases_length}
+use Rattle.decimal.specs.declared.Page.{Page}
+use Rattle.decimal.specs.Inner.{Fits, Writes}
+use Rattle.decimal.proofs.Pages.{writes_same}
 use Rattle.words.specs.Line.{fields, line}
 use Rattle.text.specs.Form.{Content, Spells}
-use Rattle.text.specs.Promise.{most_sources, most_cells, says_text, reply_to, handed, text_tests, TextPromise, sources_of}
+use Rattle.text.specs.Promise.{most_sources, most_cells, handed, text_tests, TextPromise, sources_in}
 use Rattle.text.specs.declared.Input.{Input}
-use Rattle.text.specs.declared.Answer.TheVariants.{Read, Refused}
 use Rattle.text.proofs.Unique.{sources_handed, accepted}
-use Rattle.report.specs.declared.Output.{Output}
 use Rattle.report.specs.Report.{refused_word, source_word, refusal_report, whole_report, printed, report_of}
 use Rattle.report.specs.Promise.{room_bytes, Prints, ReportPromise}
-use Rattle.report.specs.Inner.{ValidInput}
+use Rattle.report.specs.Inner.{ValidInput, Blank, WritesReport}
+use Rattle.report.proofs.Longest.{whole_long}
 
 -- ---- the room
 
 -- what was written into the blank room is the output
-pub prints : {room bytes : List ℕ} {next : ℕ} {after : List ℕ} → room ≡ zeros room_bytes → Written room 0 bytes next after → Prints bytes (record { length = next; bytes = after })
+prints : {room bytes : List ℕ} {next : ℕ} {after : List ℕ} → room ≡ zeros room_bytes → Written room 0 bytes next after → Prints bytes (record { length = next; bytes = after })
 prints {room} {bytes} {next} {after} e w =
     let count : next ≡ length bytes = w.ends ∙ zero-add (length bytes) in
     record {
@@ -52,83 +49,70 @@ prints {room} {bytes} {next} {after} e w =
 pub digits_64 : (n : ℕ) → n < 2 ^ 64 → length (digits n) ≤ 20
 digits_64 n h = length_le 19 n (omega arith)
 
--- a word and a number fit behind so many bytes
-pub line_fits : {size : ℕ} (at : ℕ) (word : List ℕ) (n : ℕ) → size ≡ room_bytes → at + length word ≤ 900000 → n < 2 ^ 64 → at + length (line word (n ∷ [])) ≤ size
+-- nor has a line with one such number more than 22 bytes behind its word
+pub line_short : (word : List ℕ) (n : ℕ) → n < 2 ^ 64 → length (line word (n ∷ [])) ≤ length word + 22
 unfolding line fields
-line_fits at word n e h small =
-    omega (arith, length-append word (32 ∷ digits n ++ (10 ∷ [])), length-append (digits n) (10 ∷ []), digits_64 n small)
+line_short word n h =
+    omega (arith, length-append word (32 ∷ digits n ++ (10 ∷ [])), length-append (digits n) (10 ∷ []), digits_64 n h)
 
--- behind the word and a space the number fits
-pub number_fits : {size : ℕ} (at n : ℕ) → size ≡ room_bytes → at ≤ 900000 → n < 2 ^ 64 → at + length (digits n) ≤ size
-number_fits at n e h small = omega (arith, digits_64 n small)
-
--- the word, the number, and the place
-pub at_source_written : {room named counted after : List ℕ} {at next end : ℕ} (n k : ℕ) → Written room 0 (refused_word ++ (32 ∷ [])) at named → Written named at (digits n) next counted → Written counted next (line (32 ∷ source_word) (k ∷ [])) end after → Written room 0 (refusal_report n (AtSource k)) end after
+-- the word and a space, the number, and the place
+pub place_written : (n k : ℕ) → ((refused_word ++ (32 ∷ [])) ++ digits n) ++ line (32 ∷ source_word) (k ∷ []) ≡ refusal_report n (AtSource k)
 unfolding refusal_report line
-at_source_written n k word number place = written_append (written_append word number) place
+place_written n k = refl
+
+module _ {page : Page} (b : Blank page) where
+  room_long : length page.room.now ≡ room_bytes
+  room_long = ap length b.blank ∙ length_zeros room_bytes
+
+  pub whole_fits : {input : Input} → ValidInput input → Fits page (whole_report input.run (sources_in input))
+  whole_fits a = omega (arith, whole_long a, room_long, b.begins)
+
+  pub number_fits : (n : ℕ) → n < 2 ^ 64 → Fits page (refusal_report n Nowhere)
+  unfolding refusal_report
+  number_fits n h = omega (arith, room_long, b.begins, line_short refused_word n h)
+
+  -- a short piece fits, and another behind it
+  pub piece_fits : (bytes : List ℕ) → length bytes ≤ 900000 → Fits page bytes
+  piece_fits bytes h = omega (arith, room_long, b.begins)
+
+  pub behind_fits : {bytes : List ℕ} {after : Page} → Writes page bytes after → (more : List ℕ) → length bytes + length more ≤ 900000 → Fits after more
+  behind_fits w more h = omega (arith, room_long, b.begins, w.written.ends, written_length w.written)
+
+-- what is written on a blank page is the output
+pub page_prints : {text : List ℕ} {page after : Page} {bytes : List ℕ} → Blank page → WritesReport text page after → bytes ≡ after.room.now → ReportPromise text (record { length = after.at; bytes = bytes })
+page_prints {page = page} {after} b w e =
+    let written = subst (λ at. Written page.room.now at (report_of w.content) after.at after.room.now) b.begins w.writes.written in
+    record { content = w.content; reads = w.reads; says = subst (λ bs. Prints (report_of w.content) (record { length = after.at; bytes = bs })) (sym e) (prints b.blank written) }
 
 -- ---- the text
 
-module _ {text : List ℕ} {input : Input} (p : TextPromise text input) where
-  -- the lists have room for as many sources as there are
-  within : (list numbers : List ℕ) → list ≡ padded most_sources numbers → length numbers ≡ length (handed p.content) → input.count ≤ length list
-  within list numbers is long = omega (arith, ap length is, padded_within most_sources numbers, long, p.counts)
+module _ {text : List ℕ} {input : Input} (p : TextPromise text (Ok input)) where
+  -- what the text says
+  abbrev content : Content
+  content = record { run = input.run; entries = sources_in input }
 
-  pub periods_within : input.count ≤ length input.periods
-  periods_within = within _ _ p.periods (periods_length (handed p.content))
+  spells : Spells text content × Passes (text_tests content)
+  spells = (accepted text (Ok input) p content).0 (refl, refl)
 
-  pub weights_within : input.count ≤ length input.weights
-  weights_within = within _ _ p.weights (weights_length (handed p.content))
-
-  pub phases_within : input.count ≤ length input.phases
-  phases_within = within _ _ p.phases (phases_length (handed p.content))
-
-  module _ {run : Run} (e : input.answer ≡ Read run) where
-    -- what the text says
-    abbrev content : Content
-    content = record { run = run; entries = sources_of input }
-
-    spells : Spells text content × Passes (text_tests content)
-    spells = (accepted text input p content).0 (e, refl)
-
-    -- there are no more sources than a text may have
-    pub few_sources : length (take (input.count - 0) input.periods) ≤ most_sources
-    unfolding text_tests
-    few_sources =
-        let few = ltb-false most_sources (length (sources_of input)) (passes_when (passes_then (passes_first (passes_first spells.1)))) in
-        omega (arith, length-take (input.count - 0) input.periods, p.counts, ap length (sources_handed text input p))
-
-    pub accepts : ValidInput run (take (input.count - 0) input.periods) (take (input.count - 0) input.weights) (take (input.count - 0) input.phases)
-    unfolding text_tests
-    accepts =
-        let t = spells.1 in
-        let all : input.count - 0 ≡ input.count = omega arith in
-        rw all
-        (record {
-          valid = valid_run (passes_first (passes_first (passes_first t))) (omega (arith, spells.0.formed.run_small 1));
-          few = ltb-false most_cells (cells_of run) (passes_when (passes_then (passes_first t)));
-          equal =
-              let periods = length-take-le input.count input.periods periods_within in
-              (periods ∙ sym (length-take-le input.count input.weights weights_within), periods ∙ sym (length-take-le input.count input.phases phases_within));
-          sound = (passes_then t).is;
-        })
-
-    pub reports : {output : Output} → Prints (whole_report run (entries_of (take (input.count - 0) input.periods) (take (input.count - 0) input.weights) (take (input.count - 0) input.phases))) output
-        → ReportPromise text output
-    unfolding report_of printed
-    reports {output} h =
-        let all : input.count - 0 ≡ input.count = omega arith in
-        let replied : reply_to p.content ≡ answered run = sym p.says ∙ ap says_text e in
-        let whole : whole_report run (entries_of (take (input.count - 0) input.periods) (take (input.count - 0) input.weights) (take (input.count - 0) input.phases)) ≡ report_of p.content =
-        rw all (ap (whole_report run) (sources_handed text input p) ∙ ap (λ r. printed r (handed p.content)) (sym replied)) in
-        record { content = p.content; reads = p.reads; says = subst (λ bytes. Prints bytes output) whole h }
-
-  pub reports_refusal : {reason : Reason} {place : Place} {output : Output} → input.answer ≡ Refused reason place → Prints (refusal_report (number reason) place) output → ReportPromise text output
-  unfolding report_of printed
-  reports_refusal {reason} {place} {output} e h =
-      let replied : reply_to p.content ≡ refused (number reason) place = sym p.says ∙ ap says_text e in
+  pub accepts : ValidInput input
+  unfolding text_tests
+  accepts =
+      let t = spells.1 in
+      let few = ltb-false most_sources (length (sources_in input)) (passes_when (passes_then (passes_first (passes_first t)))) in
       record {
-        content = p.content;
-        reads = p.reads;
-        says = subst (λ bytes. Prints bytes output) (ap (λ r. printed r (handed p.content)) (sym replied)) h;
+        valid = valid_run (passes_first (passes_first (passes_first t))) (omega (arith, spells.0.formed.run_small 1));
+        few = ltb-false most_cells (cells_of input.run) (passes_when (passes_then (passes_first t)));
+        counted = omega (arith, p.hands.counts, ap length (sources_handed text (Ok input) p));
+        sound = (passes_then t).is;
       }
+
+  pub reports : {before after : Page} → Writes before (whole_report input.run (sources_in input)) after → WritesReport text before after
+  unfolding report_of printed
+  reports w =
+      let whole : whole_report input.run (sources_in input) ≡ report_of p.content =
+      ap (whole_report input.run) (sources_handed text (Ok input) p) ∙ ap (λ r. printed r (handed p.content)) p.says in
+      record { content = p.content; reads = p.reads; writes = writes_same whole w }
+
+pub reports_refusal : {text : List ℕ} {refusal : Refusal} {before after : Page} → TextPromise text (Err refusal) → Writes before (refusal_report (number refusal.reason) refusal.place) after → WritesReport text before after
+unfolding report_of printed
+reports_refusal p w = record { content = p.content; reads = p.reads; writes = writes_same (ap (λ r. printed r (handed p.content)) p.says) w }

@@ -10,7 +10,8 @@ use Rattle.words.specs.Line.{line}
 use Rattle.words.proofs.Lines.{line_split}
 use Rattle.scope.specs.declared.Run.{Run}
 use Rattle.scope.specs.Run.{run_with, cells_of}
-use Rattle.sources.specs.Entry.{Entry, entry_with}
+use Rattle.sources.specs.declared.Entry.{Entry}
+use Rattle.sources.specs.Entry.{entry_with}
 use Rattle.text.specs.Form.{run_word, src_word, run_numbers}
 use Rattle.report.specs.Report.{map_word, run_report, entry_report, src_report, cell_report, map_report, end_report, cells_report, whole_report}
 

@@ -7,7 +7,7 @@ use Rattle.scope.specs.Hit.{hits_from}
 use Rattle.scope.specs.declared.Place.{Place}
 use Rattle.scope.specs.declared.Place.TheVariants.{Nowhere, AtSource}
 use Rattle.scope.specs.Reply.{Said, refused, answered}
-use Rattle.sources.specs.Entry.{Entry}
+use Rattle.sources.specs.declared.Entry.{Entry}
 use Rattle.decimal.specs.Digits.{digits}
 use Rattle.words.specs.Line.{line}
 use Rattle.text.specs.Form.{run_word, src_word, run_numbers, Content}

@@ -1,11 +1,12 @@
 -- The laws of lists that more than one crate goes by: parts of parts, zeros, and lists with no number above a limit. Assumes nothing.
 use Prim.Native.Nat.{ℕ, zero, suc, ◌+◌, ◌-◌, ◌≤◌, min}
-use mathlib.Core.Path.{◌≡◌, refl, sym, ap, ◌∙◌}
+use mathlib.Core.Path.{◌≡◌, refl, sym, ap}
 use mathlib.Core.List.{List, [], ◌∷◌, ◌++◌}
 use native.Mathlib.Decide.{dec_le}
 use native.Mathlib.Omega.{arith}
 use lib.ListN.{length, get_or, take, drop, length-take, length-append, length-replicate}
 use lib.Seq.{take-take, take_all, take-nil, take_at}
+use Rattle.std.proofs.lemmas.List.{take-replicate, drop-replicate}
 use Rattle.rooms.specs.Lists.{UpTo, zeros, padded}
 
 -- ---- parts of parts
@@ -44,15 +45,11 @@ length_zeros n = length-replicate n 0
 -- the first of many zeros, and the rest of them
 pub take_zeros : (k n : ℕ) → k ≤ n → take k (zeros n) ≡ zeros k
 unfolding zeros
-take_zeros zero n h = refl
-take_zeros (suc k) zero h = absurd (omega arith)
-take_zeros (suc k) (suc n) h = ap (λ l. 0 ∷ l) (take_zeros k n (omega arith))
+take_zeros k n h = take-replicate k n 0 h
 
 pub drop_zeros : (k n : ℕ) → drop k (zeros n) ≡ zeros (n - k)
 unfolding zeros
-drop_zeros zero n = let e : n ≡ n - 0 = omega arith in ap zeros e
-drop_zeros (suc k) zero = let e : 0 ≡ 0 - suc k = omega arith in ap zeros e
-drop_zeros (suc k) (suc n) = let e : n - k ≡ suc n - suc k = omega arith in drop_zeros k n ∙ ap zeros e
+drop_zeros k n = drop-replicate k n 0
 
 pub zero_at : (n i : ℕ) → get_or (zeros n) i 0 ≡ 0
 unfolding zeros

@@ -1,13 +1,11 @@
 -- Bytes that are written piece by piece: what is written and what is left make the whole. Assumes nothing.
-use Prim.Native.Nat.{ℕ, suc, ◌+◌, ◌≤◌, ◌<◌}
+use Prim.Native.Nat.{ℕ, ◌+◌, ◌≤◌}
 use native.Mathlib.Omega.{arith}
-use native.Mathlib.Numerals.{add-one}
 use mathlib.Core.Path.{◌≡◌, refl, sym, ap, ◌∙◌, subst}
-use mathlib.Core.List.{List, [], ◌∷◌, ◌++◌, append_assoc, append-nil}
-use lib.ListN.{length, drop, get_or, set, length-append}
-use lib.Seq.{drop-cons}
+use mathlib.Core.List.{List, [], ◌++◌, append_assoc, append-nil}
+use lib.ListN.{length, length-append}
 use Rattle.rooms.specs.Inner.{Written}
-use Rattle.rooms.proofs.Written.{written_none, written_one, written_append, written_length}
+use Rattle.rooms.proofs.Written.{written_none, written_append, written_length}
 
 -- up to `next` the room has all of the whole but the rest
 pub record Writing (before : List ℕ) (at : ℕ) (whole rest : List ℕ) (next : ℕ) (room : List ℕ) : Type 0 where
@@ -53,19 +51,5 @@ module _ {before : List ℕ} {at : ℕ} {whole rest : List ℕ} {next : ℕ} {ro
   pub writing_last : {end : ℕ} {after : List ℕ} → Written room next rest end after → Written before at whole end after
   writing_last {end} {after} v = subst (λ all. Written before at all end after) w.makes (written_append w.writes v)
 
--- what is written may be said in another way
-pub written_same : {room : List ℕ} {at : ℕ} {bytes others : List ℕ} {next : ℕ} {after : List ℕ} → bytes ≡ others → Written room at bytes next after → Written room at others next after
-written_same {room} {at} {bytes} {others} {next} {after} e w = subst (λ l. Written room at l next after) e w
-
 pub fits_same : (at : ℕ) {n : ℕ} (bytes others : List ℕ) → bytes ≡ others → at + length others ≤ n → at + length bytes ≤ n
 fits_same at bytes others e h = omega (arith, ap length e)
-
--- ---- a byte after the other
-
-module _ {before : List ℕ} {at : ℕ} {bytes : List ℕ} {k next : ℕ} {room : List ℕ} (w : Writing before at bytes (drop k bytes) next room) where
-  pub byte_fits : k < length bytes → next < length room
-  byte_fits h = omega (arith, piece_fits w (get_or bytes k 0 ∷ []) (drop (suc k) bytes) (drop-cons bytes k 0 h))
-
-  pub byte_written : k < length bytes → Writing before at bytes (drop (k + 1) bytes) (next + 1) (set room next (get_or bytes k 0))
-  byte_written h =
-      writing_more w {piece = get_or bytes k 0 ∷ []} (rw (add-one k) (drop-cons bytes k 0 h)) (written_one room next (get_or bytes k 0) (byte_fits h))

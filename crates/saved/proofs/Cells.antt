@@ -1,22 +1,24 @@
 -- The blocks after block 0: how many there are, how one more is written, and how one more is read. Assumes nothing.
-use Prim.Native.Nat.{ℕ, zero, suc, ◌+◌, ◌-◌, ◌*◌, ◌≤◌, ◌<◌, min}
+use Prim.Native.Nat.{ℕ, zero, suc, ◌+◌, ◌-◌, ◌*◌, ◌/◌, ◌≤◌, ◌<◌, min}
 use mathlib.Core.Path.{◌≡◌, refl, sym, ap, ◌∙◌}
-use mathlib.Core.List.{List, ◌++◌}
+use mathlib.Core.List.{List, [], ◌++◌}
 use native.Mathlib.Nat.{le_refl}
 use native.Mathlib.Numerals.{add-one}
 use native.Mathlib.Omega.{arith}
-use lib.ListN.{length, take, drop, length-append, length-take, length-drop}
-use lib.Seq.{take-take, take_all, take-length, length-take-le, take-nil, take-append-add, drop-drop}
-use borrow.Rule.Slice.PartMut.{put_mid, mid_of, mid_len}
+use lib.ListN.{length, get_or, take, drop, length-append, length-take, length-drop}
+use lib.Seq.{take-take, take_all, take-nil, take-append-add, drop-drop}
+use borrow.Rule.Slice.PartMut.{put_mid}
+use Rattle.std.specs.Simd.{first_chunks}
 use Rattle.scope.specs.declared.Run.{Run}
 use Rattle.scope.specs.Run.{cells_of}
-use Rattle.fileblocks.specs.FileBlock.{file_block_bytes, content_bytes, filled, file_block_of, contents}
+use Rattle.fileblocks.specs.FileBlock.{file_block_bytes, content_at, content_bytes, filled, file_block_of, contents}
 use Rattle.saved.specs.File.{first_joined, later_file_blocks, file_blocks_for, file_length, bytes_for, file_block_at, bytes_in}
 use Rattle.saved.specs.Inner.{many_bytes}
 use Rattle.rooms.proofs.Lists.{take_take_min, take_drop_take}
 use Rattle.fileblocks.proofs.FileBlock.{length_file_block_of}
 use Rattle.rooms.specs.Inner.{Written}
 use Rattle.rooms.proofs.Written.{written_none, written_part, written_length, written_all}
+use Rattle.saved.proofs.Walk.{Walked, Next, walk_starts, walk_more, walk_ends, walk_part, walk_on}
 
 -- a cell is one byte
 pub cell_bytes : (run : Run) → bytes_for run ≡ cells_of run
@@ -47,11 +49,6 @@ file_block_front number l =
     let size : content_bytes - length (take content_bytes l) ≡ content_bytes - length l = simp length-take (omega arith) in
     rw (take-take content_bytes content_bytes l (le_refl content_bytes), size)
 
-file_block_take : (number : ℕ) (l : List ℕ) (m : ℕ) → m ≡ min content_bytes (length l) → file_block_of number (take m l) ≡ file_block_of number l
-file_block_take number l m e =
-    let front : take m l ≡ take content_bytes l = ap (λ k. take k l) e ∙ sym (take_take_min content_bytes (length l) l) ∙ ap (take content_bytes) (take-length l) in
-    ap (file_block_of number) front ∙ file_block_front number l
-
 pub length_later_file_blocks : (map : List ℕ) (n : ℕ) → length (later_file_blocks map n) ≡ file_block_bytes * n
 unfolding later_file_blocks first_joined
 length_later_file_blocks map zero = refl
@@ -60,60 +57,58 @@ length_later_file_blocks map (suc k) =
     let b = length_file_block_of (suc k) (drop (content_bytes * k) map) in
     simp length-append (omega arith)
 
--- `now` is the room `before`, written with the first k blocks of a map
-pub record CellsWritten (map before now : List ℕ) (k : ℕ) : Type 0 where
+-- `now` is the room `before`, written with the first k blocks of a map, of which the cells `left` are to come
+pub record CellsWritten (map left before now : List ℕ) (k : ℕ) : Type 0 where
   pub few : length map < many_bytes
   pub room : length before ≡ file_block_bytes * file_blocks_for (length map)
+  pub walked : Walked content_bytes map left k
   pub within : k ≤ file_blocks_for (length map)
   pub written : Written before 0 (later_file_blocks map k) (file_block_bytes * k) now
 
-pub cells_none : {map before : List ℕ} → length map < many_bytes → length before ≡ file_block_bytes * file_blocks_for (length map) → CellsWritten map before before 0
+pub cells_none : {map before : List ℕ} → length map < many_bytes → length before ≡ file_block_bytes * file_blocks_for (length map) → CellsWritten map map before before 0
 unfolding later_file_blocks first_joined
-cells_none h e = record { few = h; room = e; within = omega arith; written = written_none _ 0 (omega arith) }
+cells_none h e = record { few = h; room = e; walked = walk_starts content_bytes _; within = omega arith; written = written_none _ 0 (omega arith) }
 
-pub cells_room : {map before now : List ℕ} {k : ℕ} → CellsWritten map before now k → content_bytes * k < length map → file_block_bytes * k + file_block_bytes ≤ length now
-cells_room s h =
-    let l = written_length s.written in
-    let b = more_file_blocks h in
-    let r = s.room in
-    omega arith
+module _ {map left before now : List ℕ} {k : ℕ} (s : CellsWritten map left before now k) where
+  pub cells_within : 0 < length left → k < file_blocks_for (length map)
+  cells_within h = more_file_blocks (walk_more s.walked h)
 
-pub cells_more : {map before now part : List ℕ} {k end : ℕ} → CellsWritten map before now k → content_bytes * k < length map → end ≡ min (content_bytes * k + content_bytes) (length map) → part ≡ file_block_of (k + 1) (take (end - content_bytes * k) (drop (content_bytes * k) map)) → CellsWritten map before (put_mid (file_block_bytes * k) (file_block_bytes * k + file_block_bytes - file_block_bytes * k) now part) (k + 1)
-unfolding later_file_blocks first_joined
-cells_more {map} {before} {now} {part} {k} {end} s h e p =
-    let l = written_length s.written in
-    let r = cells_room s h in
-    let size : end - content_bytes * k ≡ min content_bytes (length (drop (content_bytes * k) map)) = simp length-drop (omega arith) in
-    let block : part ≡ file_block_of (suc k) (drop (content_bytes * k) map) = p ∙ ap (λ n. file_block_of n (take (end - content_bytes * k) (drop (content_bytes * k) map))) (add-one k) ∙ file_block_take (suc k) (drop (content_bytes * k) map) (end - content_bytes * k) size in
-    let many : length part ≡ file_block_bytes * k + file_block_bytes - file_block_bytes * k = ap length block ∙ length_file_block_of (suc k) (drop (content_bytes * k) map) ∙ omega arith in
-    let next : file_block_bytes * (k + 1) ≡ file_block_bytes * k + file_block_bytes = omega arith in
-    record {
-      few = s.few;
-      room = s.room;
-      within = let b = more_file_blocks h in omega arith;
-      written = rw (next, add-one k, ← block) (written_part s.written (file_block_bytes * k + file_block_bytes) part (omega arith) (omega arith) many);
-    }
+  pub cells_room : 0 < length left → file_block_bytes * k + file_block_bytes ≤ length now
+  cells_room h = omega (arith, written_length s.written, cells_within h, s.room)
 
-pub cells_all : {map before now : List ℕ} {k : ℕ} → CellsWritten map before now k → length map ≤ content_bytes * k → now ≡ later_file_blocks map (file_blocks_for (length map))
-cells_all {map} {before} {now} {k} s h =
-    let all = all_file_blocks s.within h in
-    let r = s.room in
-    written_all s.written (ap (λ n. file_block_bytes * n) all ∙ sym r) ∙ ap (later_file_blocks map) all
+  pub cells_more : {cells rest part : List ℕ} → Next content_bytes left cells rest → part ≡ file_block_of (k + 1) cells
+      → CellsWritten map rest before (put_mid (file_block_bytes * k) (file_block_bytes * k + file_block_bytes - file_block_bytes * k) now part) (k + 1)
+  unfolding later_file_blocks first_joined
+  cells_more {part = part} n p =
+      let r = cells_room n.some in
+      let l = written_length s.written in
+      let block : part ≡ file_block_of (suc k) (drop (content_bytes * k) map) =
+      p ∙ ap (file_block_of (k + 1)) (walk_part s.walked n) ∙ ap (λ m. file_block_of m (take content_bytes (drop (content_bytes * k) map))) (add-one k) ∙ file_block_front (suc k) (drop (content_bytes * k) map) in
+      let many : length part ≡ file_block_bytes * k + file_block_bytes - file_block_bytes * k = ap length block ∙ length_file_block_of (suc k) (drop (content_bytes * k) map) ∙ omega arith in
+      let next : file_block_bytes * (k + 1) ≡ file_block_bytes * k + file_block_bytes = omega arith in
+      record {
+        few = s.few;
+        room = s.room;
+        walked = walk_on s.walked n;
+        within = let b = cells_within n.some in omega arith;
+        written = rw (next, add-one k, ← block) (written_part s.written (file_block_bytes * k + file_block_bytes) part (omega arith) (omega arith) many);
+      }
+
+  pub cells_all : length left ≡ 0 → now ≡ later_file_blocks map (file_blocks_for (length map))
+  cells_all h =
+      let all = all_file_blocks s.within (walk_ends s.walked h) in
+      written_all s.written (ap (λ n. file_block_bytes * n) all ∙ sym s.room) ∙ ap (later_file_blocks map) all
 
 -- the cells of block k + 1 in a map: from 504·k to `end`
 record Turn (k all end : ℕ) : Type 0 where
   start : min (content_bytes * k) all ≡ content_bytes * k
   after : content_bytes * k ≤ end
   inside : end ≤ all
-  short : end ≤ content_bytes * k + content_bytes
   size : end - content_bytes * k ≡ min (all - content_bytes * k) content_bytes
   next : min (content_bytes * (k + 1)) all ≡ end
 
-turn : {k all end : ℕ} → content_bytes * k < all → end ≡ min (content_bytes * k + content_bytes) all → Turn k all end
-turn h e = record { start = omega arith; after = omega arith; inside = omega arith; short = omega arith; size = omega arith; next = omega arith }
-
-sum_less : (a b : ℕ) → a + b - a ≡ b
-sum_less a b = omega arith
+turn : {k all end : ℕ} → content_bytes * k < all → end ≡ min all (content_bytes * k + content_bytes) → Turn k all end
+turn h e = record { start = omega arith; after = omega arith; inside = omega arith; size = omega arith; next = omega arith }
 
 pub length_file_block_at : (file : List ℕ) (k : ℕ) → file_block_bytes * k + file_block_bytes ≤ length file → length (file_block_at file k) ≡ file_block_bytes
 unfolding file_block_at
@@ -135,71 +130,89 @@ length_bytes_in file (suc k) h =
     let c = length_contents file (suc k) h in
     simp length-append (omega arith)
 
+-- a list is cut into pieces of one size
+cut_at : (size n k : ℕ) (l : List ℕ) → k < n → get_or (first_chunks size n l) k [] ≡ take size (drop (size * k) l)
+cut_at size zero k l h = absurd (omega arith)
+cut_at size (suc n) zero l h = let z : size * 0 ≡ 0 = omega arith in rw z
+cut_at size (suc n) (suc k) l h =
+    let next : size + size * k ≡ size * suc k = omega arith in
+    cut_at size n k (drop size l) (omega arith) ∙ ap (take size) (drop-drop (size * k) size l ∙ ap (λ m. drop m l) next)
+
+-- what follows block 0, as the code takes it out of the file
+abbrev later : List ℕ → List ℕ
+later file = take (length file - file_block_bytes) (drop file_block_bytes file)
+
+-- it is cut into as many blocks as the run needs, and each is that of the file
+pub record LaterBlocks (size : ℕ) (file : List ℕ) (blocks : List (List ℕ)) : Type 0 where
+  pub count : length blocks ≡ file_blocks_for size
+  pub found : (k : ℕ) → k < length blocks → get_or blocks k [] ≡ file_block_at file (suc k)
+
+pub later_blocks : {size : ℕ} {file : List ℕ} {blocks : List (List ℕ)} → length file ≡ file_length size
+    → blocks ≡ first_chunks file_block_bytes (length (later file) / file_block_bytes) (later file) → length blocks ≡ length (later file) / file_block_bytes
+    → LaterBlocks size file blocks
+unfolding file_length file_block_at
+later_blocks {size} {file} {blocks} e cut count =
+    let all : later file ≡ drop file_block_bytes file = take_all (length file - file_block_bytes) (drop file_block_bytes file) (simp length-drop (omega arith)) in
+    let next : (k : ℕ) → file_block_bytes + file_block_bytes * k ≡ file_block_bytes * suc k = λ k. omega arith in
+    record {
+      count = omega (arith, count, ap length all, length-drop file_block_bytes file);
+      found = λ k h.
+          ap (λ b. get_or b k []) cut
+          ∙ cut_at file_block_bytes (length (later file) / file_block_bytes) k (later file) (omega (arith, count))
+          ∙ ap (λ l. take file_block_bytes (drop (file_block_bytes * k) l)) all
+          ∙ ap (take file_block_bytes) (drop-drop (file_block_bytes * k) file_block_bytes file ∙ ap (λ m. drop m file) (next k));
+    }
+
 -- `now` is the map `before`, filled with what the first k blocks of cells hold
 pub record CellsRead (file before now : List ℕ) (k : ℕ) : Type 0 where
-  pub few : length before < many_bytes
   pub long : length file ≡ file_length (length before)
   pub within : k ≤ file_blocks_for (length before)
   pub same : length now ≡ length before
   pub written : Written before 0 (take (length before) (bytes_in file k)) (min (content_bytes * k) (length before)) now
 
-pub read_none : {file before : List ℕ} → length before < many_bytes → length file ≡ file_length (length before) → CellsRead file before before 0
+pub read_none : {file before : List ℕ} → length file ≡ file_length (length before) → CellsRead file before before 0
 unfolding bytes_in first_joined
-read_none {file} {before} h e = record {
-  few = h;
+read_none {file} {before} e = record {
   long = e;
   within = omega arith;
   same = refl;
   written = let z : min (content_bytes * 0) (length before) ≡ 0 = omega arith in rw (z, take-nil (length before)) (written_none before 0 (omega arith));
 }
 
--- the file has another block while cells are left
-pub read_room : {file before now : List ℕ} {k : ℕ} → CellsRead file before now k → content_bytes * k < length now → file_block_bytes * (k + 1) + file_block_bytes ≤ length file
-unfolding file_length
-read_room s h =
-    let b = more_file_blocks (rw s.same at h) in
-    let l = s.long in
-    omega arith
+module _ {file before now : List ℕ} {k : ℕ} (s : CellsRead file before now k) where
+  pub read_more : {block part : List ℕ} {end : ℕ} → k < file_blocks_for (length before) → block ≡ file_block_at file (suc k)
+      → end ≡ min (length now) (content_bytes * k + content_bytes) → part ≡ take (end - content_bytes * k) (drop content_at block)
+      → CellsRead file before (put_mid (content_bytes * k) (end - content_bytes * k) now part) (k + 1)
+  unfolding bytes_in first_joined contents file_length
+  read_more {block} {part} {end} begun is e p =
+      let all = length before in
+      let left = begun_file_block begun in
+      let room : file_block_bytes * suc k + file_block_bytes ≤ length file = let l = s.long in omega arith in
+      let t = turn left (rw s.same at e) in
+      let held = length_contents file (suc k) room in
+      let there : part ≡ take (all - content_bytes * k) (contents (file_block_at file (suc k))) =
+      p ∙ ap (λ m. take m (drop content_at block)) t.size
+      ∙ sym (take_take_min (all - content_bytes * k) content_bytes (drop content_at block))
+      ∙ ap (λ b. take (all - content_bytes * k) (contents b)) is in
+      let many : length part ≡ end - content_bytes * k = ap length there ∙ omega (arith, length-take (all - content_bytes * k) (contents (file_block_at file (suc k))), t.size, held) in
+      let written = written_part (rw t.start at s.written) end part t.after t.inside many in
+      let size = length_bytes_in file k (omega arith) in
+      let front : take all (bytes_in file k) ≡ bytes_in file k = take_all all (bytes_in file k) (omega arith) in
+      let sum : all ≡ length (bytes_in file k) + (all - content_bytes * k) = omega arith in
+      let done : take all (bytes_in file k) ++ part ≡ take all (bytes_in file (k + 1)) =
+      ap (λ l. l ++ part) front ∙ ap (λ l. bytes_in file k ++ l) there
+      ∙ sym (take-append-add (bytes_in file k) (contents (file_block_at file (suc k))) (all - content_bytes * k))
+      ∙ rw (← sum, add-one k) in
+      record {
+        long = s.long;
+        within = omega (arith, begun);
+        same = written_length written;
+        written = rw (t.next, ← done) written;
+      }
 
-pub read_more : {file before now part : List ℕ} {k end : ℕ} → CellsRead file before now k → content_bytes * k < length now → end ≡ min (content_bytes * k + content_bytes) (length now) → part ≡ take (file_block_bytes * (k + 1) + 4 + (end - content_bytes * k) - (file_block_bytes * (k + 1) + 4)) (drop (file_block_bytes * (k + 1) + 4) file) → CellsRead file before (put_mid (content_bytes * k) (end - content_bytes * k) now part) (k + 1)
-unfolding bytes_in first_joined
-read_more {file} {before} {now} {part} {k} {end} s h e p =
-    let all = length before in
-    let at = file_block_bytes * (k + 1) + 4 in
-    let room = read_room s h in
-    let t = turn (rw s.same at h) (rw s.same at e) in
-    let cut : part ≡ take (end - content_bytes * k) (drop at file) = p ∙ ap (λ n. take n (drop at file)) (sum_less at (end - content_bytes * k)) in
-    let many : length part ≡ end - content_bytes * k = ap length cut ∙ length-take-le (end - content_bytes * k) (drop at file) (simp length-drop (omega arith)) in
-    let written = written_part (rw t.start at s.written) end part t.after t.inside many in
-    let size = length_bytes_in file k (omega arith) in
-    let front : take all (bytes_in file k) ≡ bytes_in file k = take_all all (bytes_in file k) (omega arith) in
-    let whole : all ≡ length (bytes_in file k) + (all - content_bytes * k) = omega arith in
-    let back : take (all - content_bytes * k) (contents (file_block_at file (suc k))) ≡ part =
-    ap (take (all - content_bytes * k)) (contents_at file (suc k))
-    ∙ take_take_min (all - content_bytes * k) content_bytes (drop (file_block_bytes * suc k + 4) file)
-    ∙ rw (← t.size, ← add-one k) (sym cut) in
-    let done : take all (bytes_in file k) ++ part ≡ take all (bytes_in file (k + 1)) =
-    ap (λ l. l ++ part) front ∙ ap (λ l. bytes_in file k ++ l) (sym back)
-    ∙ sym (take-append-add (bytes_in file k) (contents (file_block_at file (suc k))) (all - content_bytes * k))
-    ∙ rw (← whole, add-one k) in
-    record {
-      few = s.few;
-      long = s.long;
-      within = let b = more_file_blocks (rw s.same at h) in omega arith;
-      same = written_length written;
-      written = rw (t.next, ← done) written;
-    }
-
-pub read_part : {file before now : List ℕ} {k end : ℕ} → CellsRead file before now k → content_bytes * k < length now → end ≡ min (content_bytes * k + content_bytes) (length now) → length (mid_of (content_bytes * k) (end - content_bytes * k) now) ≡ length (take (file_block_bytes * (k + 1) + 4 + (end - content_bytes * k) - (file_block_bytes * (k + 1) + 4)) (drop (file_block_bytes * (k + 1) + 4) file))
-read_part {file} {before} {now} {k} {end} s h e =
-    let room = read_room s h in
-    let from : end ≤ length now = omega arith in
-    let to : file_block_bytes * (k + 1) + 4 + (end - content_bytes * k) ≤ length file = omega arith in
-    mid_len (content_bytes * k) end now from ∙ omega arith ∙ sym (mid_len (file_block_bytes * (k + 1) + 4) (file_block_bytes * (k + 1) + 4 + (end - content_bytes * k)) file to)
-
-pub read_all : {file before now : List ℕ} {k : ℕ} → CellsRead file before now k → length now ≤ content_bytes * k → now ≡ take (length before) (bytes_in file (file_blocks_for (length before)))
-read_all {file} {before} {now} {k} s h =
-    let l = s.same in
-    let less : length before ≤ content_bytes * k = omega arith in
-    let all = all_file_blocks s.within less in
-    written_all s.written (omega arith) ∙ ap (λ n. take (length before) (bytes_in file n)) all
+  pub read_all : file_blocks_for (length before) ≤ k → now ≡ take (length before) (bytes_in file (file_blocks_for (length before)))
+  read_all h =
+      let all : k ≡ file_blocks_for (length before) = omega (arith, h, s.within) in
+      let enough = enough_file_blocks (length before) in
+      let less : length before ≤ content_bytes * k = omega (arith, ap (λ n. content_bytes * n) all) in
+      written_all s.written (omega arith) ∙ ap (λ n. take (length before) (bytes_in file n)) all

@@ -1,5 +1,6 @@
 pub mod Joined
 pub mod Bytes
+pub mod Walk
 pub mod Cells
 pub mod Judging
 pub mod Sealing

@@ -7,15 +7,14 @@ use mathlib.Core.Option.{Option, some, none}
 use native.Mathlib.Omega.{arith}
 use lib.ListN.{get_or}
 use mathlib.Core.List.{[], ◌∷◌}
-use Rattle.scope.specs.Refusal.{Complaint, Tests, ◌when◌, ◌and_then◌, of_source, nothing, complaint, number, Withdrawn}
+use Rattle.scope.specs.Refusal.{Refusal, Tests, ◌when◌, ◌and_then◌, of_source, nothing, complaint, number, Withdrawn}
 use Rattle.scope.specs.declared.Reason.{Reason}
 use Rattle.scope.specs.declared.Reason.TheVariants.{Window, LineOrder, LastLine, Interval, Period, Remainder, WiderThanPeriod, Weight, Start, Room, Lists, Text, TooMany, FileBlocks, Check, Layout, Threshold, Guard, StretchRoom, Phase}
 use Rattle.scope.specs.declared.Place.{Place}
 use Rattle.scope.specs.declared.Place.TheVariants.{Nowhere, AtSource}
 use Rattle.scope.specs.Reply.{Said, refused, answered, reply, stored}
 use Rattle.scope.specs.Inner.{verdict}
-use Rattle.scope.specs.declared.Verdict.{Verdict}
-use Rattle.scope.specs.declared.Verdict.TheVariants.{Fine, Refused}
+use Rattle.std.specs.Prelude.{Result, Ok, Err}
 
 -- ---- "The refusal numbers": a number tells its reason
 
@@ -111,25 +110,22 @@ unfolding complaint
 no_tests = record { is = refl }
 
 -- what a verdict tells of the tests that it was made for
-pub fine : {tests : Tests} {v : Verdict} → v ≡ verdict (complaint tests) → v ≡ Fine → Passes tests
+pub fine : {tests : Tests} {v : Result (Unit {0}) Refusal} → v ≡ verdict (complaint tests) → v ≡ Ok tt → Passes tests
 fine {tests} e f = record { is = go (complaint tests) (sym e ∙ f) }
   where
-    go : (o : Option Complaint) → verdict o ≡ Fine → o ≡ none
+    go : (o : Option Refusal) → verdict o ≡ Ok tt → o ≡ none
     go none e = refl
     go (some c) e = cc
 
-pub blamed : {tests : Tests} {v : Verdict} {reason : Reason} {place : Place} → v ≡ verdict (complaint tests) → v ≡ Refused reason place → Fails tests reason place
-blamed {tests} {v} {reason} {place} e f = record { is = go (complaint tests) (sym e ∙ f) }
+pub blamed : {tests : Tests} {v : Result (Unit {0}) Refusal} {r : Refusal} → v ≡ verdict (complaint tests) → v ≡ Err r → Fails tests r.reason r.place
+blamed {tests} {v} {r} e f = record { is = go (complaint tests) (sym e ∙ f) }
   where
-    go : (o : Option Complaint) → verdict o ≡ Refused reason place → o ≡ some (record { reason = reason; place = place })
-    go none e = absurd (let z : ◌≡◌ {A = ℕ} 0 1 = cc in omega arith)
-    go (some c) e =
-        let r : c.reason ≡ reason = cc in
-        let p : c.place ≡ place = cc in
-        λ i. some (record { reason = r i; place = p i })
+    go : (o : Option Refusal) → verdict o ≡ Err r → o ≡ some r
+    go none e = cc
+    go (some c) e = ap some cc
 
 -- what a complaint makes of the verdict, of the reply and of what is lent
-pub refuse_verdict : {tests : Tests} {reason : Reason} {place : Place} → Fails tests reason place → Refused reason place ≡ verdict (complaint tests)
+pub refuse_verdict : {tests : Tests} {reason : Reason} {place : Place} → Fails tests reason place → Err (record { reason = reason; place = place }) ≡ verdict (complaint tests)
 refuse_verdict f = rw f.is
 
 pub refuse_reply : {A : Type 0} {tests : Tests} {reason : Reason} {place : Place} (a : A) → Fails tests reason place → refused (number reason) place ≡ reply (complaint tests) a
@@ -139,7 +135,7 @@ pub refuse_stored : {A : Type 0} {tests : Tests} {reason : Reason} {place : Plac
 refuse_stored before after f = rw f.is
 
 -- what no complaint makes of them
-pub grant_verdict : {tests : Tests} → Passes tests → Fine ≡ verdict (complaint tests)
+pub grant_verdict : {tests : Tests} → Passes tests → Ok tt ≡ verdict (complaint tests)
 grant_verdict p = rw p.is
 
 pub grant_reply : {A : Type 0} {tests : Tests} (a : A) → Passes tests → answered a ≡ reply (complaint tests) a
@@ -152,7 +148,7 @@ grant_stored before after p = rw p.is
 pub said_answered : {A : Type 0} {a b : A} (tests : Tests) → answered a ≡ reply (complaint tests) b → Passes tests × (a ≡ b)
 said_answered {A} {a} {b} tests e = go (complaint tests) refl e
   where
-    go : (o : Option Complaint) → complaint tests ≡ o → answered a ≡ reply o b → Passes tests × (a ≡ b)
+    go : (o : Option Refusal) → complaint tests ≡ o → answered a ≡ reply o b → Passes tests × (a ≡ b)
     go none i e = (record { is = i }, cc)
     go (some c) i e = absurd (let z : ◌≡◌ {A = ℕ} 0 1 = cc in omega arith)
 
@@ -160,14 +156,14 @@ said_answered {A} {a} {b} tests e = go (complaint tests) refl e
 pub refused_same : {A : Type 0} {m n : ℕ} {k l : Place} → ◌≡◌ {A = Said A} (refused m k) (refused n l) → (m ≡ n) × (k ≡ l)
 refused_same e = (cc, cc)
 
--- a refusal of an answer enum is told by what it says
+-- a refusal is told by what a reply says
 pub same_refusal : {A : Type 0} {a b : Reason} {k l : Place} → ◌≡◌ {A = Said A} (refused (number a) k) (refused (number b) l) → (a ≡ b) × (k ≡ l)
 same_refusal {a = a} {b} e = let s = refused_same e in (number_injective a b s.0, s.1)
 
 pub said_refused : {A : Type 0} {reason : Reason} {place : Place} (tests : Tests) (b : A) → refused (number reason) place ≡ reply (complaint tests) b → Fails tests reason place
 said_refused {A} {reason} {place} tests b e = record { is = go (complaint tests) e }
   where
-    go : (o : Option Complaint) → refused (number reason) place ≡ reply o b → o ≡ some (record { reason = reason; place = place })
+    go : (o : Option Refusal) → refused (number reason) place ≡ reply o b → o ≡ some (record { reason = reason; place = place })
     go none e = absurd (let z : ◌≡◌ {A = ℕ} 0 1 = cc in omega arith)
     go (some c) e =
         let s = refused_same e in

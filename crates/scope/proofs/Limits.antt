@@ -10,7 +10,7 @@ use borrow.Author.Tests.{ltb-false, le-ltb, leb-false, lt-leb, eqb-false, ne_eqb
 use Rattle.scope.specs.declared.Run.{Run}
 use Rattle.scope.specs.declared.Source.{Source}
 use Rattle.scope.specs.Run.{ValidRun, ValidSource, lines_of, cells_of}
-use Rattle.scope.specs.Refusal.{Complaint, Tests, ◌when◌, ◌and_then◌, of_source, or_else, placed, complaint, window_tests, line_tests, run_tests, period_tests, phase_tests, source_tests}
+use Rattle.scope.specs.Refusal.{Refusal, Tests, ◌when◌, ◌and_then◌, of_source, or_else, placed, complaint, window_tests, line_tests, run_tests, period_tests, phase_tests, source_tests}
 use Rattle.scope.specs.declared.Reason.{Reason}
 use Rattle.scope.proofs.Judged.{Passes, sound, both}
 
@@ -25,7 +25,7 @@ passes_when {reason} {wrong} p = go wrong p.is
     go false e = refl
 
 -- of two complaints one after the other there is none
-neither : (a b : Option Complaint) → or_else a b ≡ none → (a ≡ none) × (b ≡ none)
+neither : (a b : Option Refusal) → or_else a b ≡ none → (a ≡ none) × (b ≡ none)
 neither none b e = (refl, e)
 neither (some c) b e = (cc, cc)
 
@@ -41,7 +41,7 @@ pub passes_source : {k : ℕ} {tests : Tests} → Passes (of_source k tests) →
 unfolding complaint
 passes_source {k} {tests} p = record { is = go (complaint tests) p.is }
   where
-    go : (o : Option Complaint) → placed k o ≡ none → o ≡ none
+    go : (o : Option Refusal) → placed k o ≡ none → o ≡ none
     go none e = refl
     go (some c) e = cc
 

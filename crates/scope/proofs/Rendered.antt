@@ -7,7 +7,7 @@ use mathlib.Core.Bool.{Bool, true, false}
 use mathlib.Core.List.{List, [], ◌∷◌, ◌++◌}
 use mathlib.Core.Option.{Option, some, none}
 use native.Mathlib.Omega.{arith}
-use Rattle.scope.specs.Refusal.{Complaint, Tests, ◌when◌, ◌and_then◌, of_source, nothing, or_else, complaint, number, Withdrawn}
+use Rattle.scope.specs.Refusal.{Refusal, Tests, ◌when◌, ◌and_then◌, of_source, nothing, or_else, complaint, number, Withdrawn}
 use Rattle.scope.specs.declared.Reason.{Reason}
 use Rattle.scope.specs.declared.Place.{Place}
 use Rattle.scope.specs.declared.Place.TheVariants.{Nowhere, AtSource}
@@ -36,10 +36,10 @@ along : {a b : Tests} {n : ℕ} {k l : Place} → ((reason : Reason) → Fails a
 along g f = record { reason = f.reason; numbered = f.numbered; fails = g f.reason f.fails }
 
 -- tests pass or come to a complaint
-pub judged : (tests : Tests) → Passes tests ⊎ ((c : Complaint) × Fails tests c.reason c.place)
+pub judged : (tests : Tests) → Passes tests ⊎ ((c : Refusal) × Fails tests c.reason c.place)
 judged tests = go (complaint tests) refl
   where
-    go : (o : Option Complaint) → complaint tests ≡ o → Passes tests ⊎ ((c : Complaint) × Fails tests c.reason c.place)
+    go : (o : Option Refusal) → complaint tests ≡ o → Passes tests ⊎ ((c : Refusal) × Fails tests c.reason c.place)
     go none e = inl (record { is = e })
     go (some c) e = inr (c, record { is = e })
 
@@ -51,8 +51,8 @@ not_both p f = let e = sym p.is ∙ f.fails.is in let z : ◌≡◌ {A = ℕ} 0 
 same_complaint : {tests : Tests} {n m : ℕ} {k l : Place} → FailsAs tests n k → FailsAs tests m l → (n ≡ m) × (k ≡ l)
 same_complaint {k = k} {l} f g =
     let e = sym f.fails.is ∙ g.fails.is in
-    let c : ◌≡◌ {A = Complaint} (record { reason = f.reason; place = k }) (record { reason = g.reason; place = l }) = cc in
-    (sym f.numbered ∙ ap (λ (c : Complaint). number c.reason) c ∙ g.numbered, ap (λ (c : Complaint). c.place) c)
+    let c : ◌≡◌ {A = Refusal} (record { reason = f.reason; place = k }) (record { reason = g.reason; place = l }) = cc in
+    (sym f.numbered ∙ ap (λ (c : Refusal). number c.reason) c ∙ g.numbered, ap (λ (c : Refusal). c.place) c)
 
 -- ---- one test
 
@@ -85,7 +85,7 @@ one {reason} {wrong} {P} e = record {
 split_fails : {a b : Tests} {n : ℕ} {place : Place} → FailsAs (a and_then b) n place → FailsAs a n place ⊎ (Passes a × FailsAs b n place)
 split_fails {a} {b} {n} {place} f = ⊎_elim (λ p. inr (p, rest p (judged b))) (λ g. inl (told_as (same_complaint (as_number (first g.1)) f) (as_number g.1))) (judged a)
   where
-    rest : Passes a → Passes b ⊎ ((c : Complaint) × Fails b c.reason c.place) → FailsAs b n place
+    rest : Passes a → Passes b ⊎ ((c : Refusal) × Fails b c.reason c.place) → FailsAs b n place
     rest p (inl q) = absurd (not_both (both p q) f)
     rest p (inr g) = told_as (same_complaint (as_number (then p g.1)) f) (as_number g.1)
 
@@ -177,7 +177,7 @@ either {a} {b} {m} {P} {Q} f g = record {
     right n place (inl h) = inl (h.0, h.1, inr h.2)
     right n place (inr h) = absurd h.1
 
-    second : Q → Passes a ⊎ ((c : Complaint) × Fails a c.reason c.place) → FailsAs (a and_then b) m Nowhere
+    second : Q → Passes a ⊎ ((c : Refusal) × Fails a c.reason c.place) → FailsAs (a and_then b) m Nowhere
     second q (inl p) = along (λ reason. then p) ((g.fails m Nowhere).1 (inl (refl, refl, q)))
     second q (inr h) =
         let own = as_number h.1 in
@@ -199,7 +199,7 @@ grouped e r = record {
   passes = (λ p. r.passes.0 (record { is = e ∙ p.is }), λ s. record { is = sym e ∙ (r.passes.1 s).is });
 }
 
-or_else_lem : (x y z : Option Complaint) → or_else x (or_else y z) ≡ or_else (or_else x y) z
+or_else_lem : (x y z : Option Refusal) → or_else x (or_else y z) ≡ or_else (or_else x y) z
 or_else_lem none y z = refl
 or_else_lem (some c) y z = refl
 
@@ -256,7 +256,7 @@ of_source_lem {k} {tests} {table} r = record {
   passes = (λ p. (silent_at k table).1 (r.passes.0 (passes_source p)), λ s. source_passes (r.passes.1 ((silent_at k table).0 s)));
 }
   where
-    own : (n : ℕ) (place : Place) → FailsAs (of_source k tests) n place → Passes tests ⊎ ((c : Complaint) × Fails tests c.reason c.place) → (AtSource k ≡ place) × SaysNumber table n
+    own : (n : ℕ) (place : Place) → FailsAs (of_source k tests) n place → Passes tests ⊎ ((c : Refusal) × Fails tests c.reason c.place) → (AtSource k ≡ place) × SaysNumber table n
     own n place f (inl p) = absurd (not_both (source_passes p) f)
     own n place f (inr g) =
         let same = same_complaint (as_number (source_fails g.1)) f in
@@ -268,14 +268,14 @@ of_source_lem {k} {tests} {table} r = record {
 -- ---- every call whose reply is made from its complaint
 
 -- a complaint has this number and this place exactly if the tests fail so
-pub complained : {tests : Tests} (c : Complaint) → complaint tests ≡ some c → (n : ℕ) (place : Place) → ((number c.reason ≡ n) × (c.place ≡ place)) ↔ FailsAs tests n place
+pub complained : {tests : Tests} (c : Refusal) → complaint tests ≡ some c → (n : ℕ) (place : Place) → ((number c.reason ≡ n) × (c.place ≡ place)) ↔ FailsAs tests n place
 complained c i n place = let own = as_number (record { is = i }) in (λ e. told_as e own, λ f. same_complaint own f)
 
 -- a reply reads "refused n" at a place exactly if the call's complaint has that number and that place
 complains : {A : Type 0} (tests : Tests) (answer : A) (said : Said A) → said ≡ reply (complaint tests) answer → (n : ℕ) (place : Place) → (said ≡ refused n place) ↔ FailsAs tests n place
 complains {A} tests answer said e n place = (λ h. go (complaint tests) refl (sym h ∙ e), back)
   where
-    go : (o : Option Complaint) → complaint tests ≡ o → refused n place ≡ reply o answer → FailsAs tests n place
+    go : (o : Option Refusal) → complaint tests ≡ o → refused n place ≡ reply o answer → FailsAs tests n place
     go none i h = absurd (let z : ◌≡◌ {A = ℕ} 0 1 = cc in omega arith)
     go (some c) i h = let s = refused_same h in (complained c i n place).0 (sym s.0, sym s.1)
 

@@ -1,30 +1,22 @@
--- What the inner steps that judge a call's input answer: verdicts, and two of them one after the other; and what those ask for that
--- go from a block to its run and back.
+-- What the inner steps that judge a call's input answer; and what those ask for that go from a block to its run and back.
 use Rattle.std.proofs.Math.Option.{Option, some, none}
-use Rattle.scope.specs.Refusal.{Complaint}
+use Rattle.scope.specs.Refusal.{Refusal}
 use Rattle.scope.specs.declared.Place.TheVariants.{AtSource}
-use Rattle.scope.specs.declared.Verdict.{Verdict}
-use Rattle.scope.specs.declared.Verdict.TheVariants.{Fine, Refused}
-use Rattle.std.specs.Prelude.{ℕ, ◌-◌, ◌≤◌, ◌≡◌}
+use Rattle.std.specs.Prelude.{ℕ, ◌-◌, ◌≤◌, ◌≡◌, Result, Ok, Err}
 use Rattle.scope.specs.declared.Run.{Run}
 use Rattle.scope.specs.declared.RunCell.{RunCell}
 use Rattle.scope.specs.declared.BlockCell.{BlockCell}
 use Rattle.scope.specs.Run.{shift_of}
 
--- The first, unless it is fine: then the second.
-unfoldable pub first_of : Verdict → Verdict → Verdict
-first_of Fine second = second
-first_of (Refused reason place) second = Refused reason place
-
 -- The verdict on the source at place k of a list: a refusal's place is that one.
-unfoldable pub at_source : ℕ → Verdict → Verdict
-at_source k Fine = Fine
-at_source k (Refused reason place) = Refused reason (AtSource k)
+unfoldable pub at_source : ℕ → Result (Unit {0}) Refusal → Result (Unit {0}) Refusal
+at_source k (Ok fine) = Ok fine
+at_source k (Err refusal) = Err (record { reason = refusal.reason; place = AtSource k })
 
 -- A verdict on a call's tests, or on some of them, as an answer of the code.
-abbrev pub verdict : Option Complaint → Verdict
-verdict none = Fine
-verdict (some c) = Refused c.reason c.place
+abbrev pub verdict : Option Refusal → Result (Unit {0}) Refusal
+verdict none = Ok tt
+verdict (some c) = Err c
 
 -- "A block is a run with the same window and interval and a part of the lines."
 pub record IsBlock (run block : Run) : Type 0 where

@@ -6,7 +6,8 @@ use Rattle.scope.specs.declared.Run.{Run}
 use Rattle.scope.specs.declared.Source.{Source}
 use Rattle.scope.specs.declared.Reason.{Reason}
 use Rattle.scope.specs.declared.Reason.TheVariants.{Window, LineOrder, LastLine, Interval, Period, Remainder, WiderThanPeriod, Weight, Start, Room, Lists, Text, TooMany, FileBlocks, Check, Layout, Threshold, Guard, StretchRoom, Phase}
-use Rattle.scope.specs.declared.Place.{Place}
+-- "a refusal carries the reason and, where it concerns a source, that place" (E1).
+pub use Rattle.scope.specs.declared.Refusal.{Refusal}
 use Rattle.scope.specs.declared.Place.TheVariants.{Nowhere, AtSource}
 
 -- The number of each reason. In quotes above it: when it is given, from 01's table, for 17 and 18 from request E1: "Split it: ..
@@ -57,11 +58,6 @@ number Phase = 22
 abbrev pub Withdrawn : ℕ → Type 0
 Withdrawn n = (n ≡ 2) ⊎ (n ≡ 16)
 
--- "a refusal carries the reason and, where it concerns a source, that place" (E1).
-pub record Complaint : Type 0 where
-  pub reason : Reason
-  pub place : Place
-
 infix 45 ◌when◌
 infixl 40 ◌and_then◌
 -- The tests of a call, written in the order of 01's paragraph "Order", or of the request that the call comes from.
@@ -76,17 +72,17 @@ pub data Tests : Type 0 where
   nothing : Tests
 
 -- The first complaint, or else the second.
-abbrev pub or_else : Option Complaint → Option Complaint → Option Complaint
+abbrev pub or_else : Option Refusal → Option Refusal → Option Refusal
 or_else none other = other
 or_else (some c) other = some c
 
 -- "Where a source in a list is at fault .. its place, counted from 1" (E1).
-abbrev pub placed : ℕ → Option Complaint → Option Complaint
+abbrev pub placed : ℕ → Option Refusal → Option Refusal
 placed k none = none
 placed k (some c) = some (record { reason = c.reason; place = AtSource k })
 
 -- The complaint about a call: the first of its tests that fails, if any.
-unfoldable pub complaint : Tests → Option Complaint
+unfoldable pub complaint : Tests → Option Refusal
 complaint (reason when wrong) = cond wrong (some (record { reason = reason; place = Nowhere })) none
 complaint (first and_then rest) = or_else (complaint first) (complaint rest)
 complaint (of_source k tests) = placed k (complaint tests)

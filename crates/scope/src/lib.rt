@@ -3,15 +3,16 @@
 #![tactic(auto)]
 
 ghost use Rattle.std.specs.Prelude.{◌≡◌, ◌≤◌};
-ghost use Rattle.scope.specs.Run.{ValidRun, cells_of, shift_of, to_run};
-ghost use Rattle.scope.specs.Inner.{IsBlock, to_block, first_of, at_source, verdict};
-ghost use Rattle.scope.specs.Refusal.{number, complaint, window_tests, line_tests, run_tests, period_tests, phase_tests, source_tests};
+ghost use Rattle.scope.specs.Run.{ValidRun, run_with, cells_of, shift_of, to_run};
+ghost use Rattle.scope.specs.declared.Place.TheVariants.{Nowhere};
+ghost use Rattle.scope.specs.Inner.{IsBlock, to_block, at_source, verdict};
+ghost use Rattle.scope.specs.Refusal.{◌when◌, number, complaint, window_tests, line_tests, run_tests, period_tests, phase_tests, source_tests};
 
 // What a weight, and a cell of a map, is at most: `ceiling` of the specs. A cell is as wide as this number.
 pub const CEILING: u8 = 255;
 
 // A run: the window's width and the interval in ticks, the first and the last line. Lines run from 0.
-#[derive(Clone, Copy)]
+#[derive(Clone, Copy, PartialEq, Eq)]
 pub struct Run {
     pub window: u32,
     pub interval: u32,
@@ -20,22 +21,22 @@ pub struct Run {
 }
 
 // A source, less its weight: it has an edge at its phase, and whole periods before and after it.
-#[derive(Clone, Copy)]
+#[derive(Clone, Copy, PartialEq, Eq)]
 pub struct Source {
     pub period: u32,
     pub phase: u32,
 }
 
 // A cell number of the run that a call is about; where the call is about a block, that block is its run.
-#[derive(Clone, Copy)]
+#[derive(Clone, Copy, PartialEq, Eq)]
 pub struct RunCell(pub u64);
 
 // A cell number of a block of that run, counted from the block's first line on.
-#[derive(Clone, Copy)]
+#[derive(Clone, Copy, PartialEq, Eq)]
 pub struct BlockCell(pub u64);
 
 // Why a call is refused: the table of refusal numbers, each row by what is wrong.
-#[derive(Clone, Copy)]
+#[derive(Clone, Copy, PartialEq, Eq)]
 pub enum Reason {
     // The window is odd, below 2 or above 4,096.
     Window,
@@ -79,8 +80,8 @@ pub enum Reason {
     Phase,
 }
 
-// What a refusal concerns.
-#[derive(Clone, Copy)]
+// What a refusal concerns. An enum, though `Option<u64>` has its shape: document 01 says a place enum.
+#[derive(Clone, Copy, PartialEq, Eq)]
 pub enum Place {
     // No source of a list.
     Nowhere,
@@ -88,141 +89,140 @@ pub enum Place {
     AtSource(u64),
 }
 
-// What the tests of a call, or some of them, came to.
-#[derive(Clone, Copy)]
-pub enum Verdict {
-    // No test was failed.
-    Fine,
-    // The first test that was: why, and where.
-    Refused(Reason, Place),
+// A refusal: why, and what it concerns.
+#[derive(Clone, Copy, PartialEq, Eq)]
+pub struct Refusal {
+    pub reason: Reason,
+    pub place: Place,
 }
 
-// Inner step. The number that a reason has in the table.
-pub fn number_of(reason: Reason) -> u8
-    ensures { result ≡ number reason }
-{
-    match reason {
-        Reason::Window => 1,
-        Reason::LineOrder => 17,
-        Reason::LastLine => 18,
-        Reason::Interval => 3,
-        Reason::Period => 4,
-        Reason::Remainder => 5,
-        Reason::WiderThanPeriod => 6,
-        Reason::Weight => 7,
-        Reason::Start => 8,
-        Reason::Room => 9,
-        Reason::Lists => 10,
-        Reason::Text => 11,
-        Reason::TooMany => 12,
-        Reason::FileBlocks => 13,
-        Reason::Check => 14,
-        Reason::Layout => 15,
-        Reason::Threshold => 19,
-        Reason::Guard => 20,
-        Reason::StretchRoom => 21,
-        Reason::Phase => 22,
+// The number that a reason has in the table.
+impl From<Reason> for u8 {
+    ghost from_gives = { λ reason told. told ≡ number reason };
+
+    fn from(reason: Reason) -> u8 {
+        match reason {
+            Reason::Window => 1,
+            Reason::LineOrder => 17,
+            Reason::LastLine => 18,
+            Reason::Interval => 3,
+            Reason::Period => 4,
+            Reason::Remainder => 5,
+            Reason::WiderThanPeriod => 6,
+            Reason::Weight => 7,
+            Reason::Start => 8,
+            Reason::Room => 9,
+            Reason::Lists => 10,
+            Reason::Text => 11,
+            Reason::TooMany => 12,
+            Reason::FileBlocks => 13,
+            Reason::Check => 14,
+            Reason::Layout => 15,
+            Reason::Threshold => 19,
+            Reason::Guard => 20,
+            Reason::StretchRoom => 21,
+            Reason::Phase => 22,
+        }
     }
 }
 
-// Inner step. The first of two verdicts, unless it is fine: then the second.
-pub fn first_of(first: Verdict, second: Verdict) -> Verdict
-    ensures { result ≡ first_of first second }
-{
-    match first {
-        Verdict::Fine => second,
-        Verdict::Refused(reason, place) => Verdict::Refused(reason, place),
+impl Reason {
+    // Inner step. The refusal for this reason that concerns no source of a list.
+    pub fn alone(self) -> Refusal
+        ensures { result ≡ record { reason = self; place = Nowhere } }
+    {
+        Refusal {
+            reason: self,
+            place: Place::Nowhere,
+        }
+    }
+
+    // Inner step. One test: it is failed, for this reason, when `wrong` is so.
+    pub fn when(self, wrong: bool) -> Result<(), Refusal>
+        ensures { result ≡ verdict (complaint (self when wrong)) }
+    {
+        if wrong { Err(self.alone()) } else { Ok(()) }
     }
 }
 
-// Inner step. A verdict on the source at a place of a list, counted from 1: where it refuses, that is the refusal's place.
-pub fn at_source(place: u64, said: Verdict) -> Verdict
+// Inner step. What tests came to, as tests of the source at a place of a list, counted from 1: that is a refusal's place then.
+// A match, and no `map_err`: tried, and what its closure gives was not proved.
+pub fn at_source(place: u64, said: Result<(), Refusal>) -> Result<(), Refusal>
     ensures { result ≡ at_source place said }
 {
     match said {
-        Verdict::Fine => Verdict::Fine,
-        Verdict::Refused(reason, _) => Verdict::Refused(reason, Place::AtSource(place)),
+        Ok(()) => Ok(()),
+        Err(refusal) => Err(Refusal {
+            reason: refusal.reason,
+            place: Place::AtSource(place),
+        }),
     }
 }
 
 // Inner step. What the table says of a window.
-pub fn judge_window(window: u32) -> Verdict
+pub fn judge_window(window: u32) -> Result<(), Refusal>
     ensures { result ≡ verdict (complaint (window_tests window)) }
 {
-    if window % 2 == 1 {
-        return Verdict::Refused(Reason::Window, Place::Nowhere);
-    }
-    if window < 2 {
-        return Verdict::Refused(Reason::Window, Place::Nowhere);
-    }
-    if 4096 < window {
-        return Verdict::Refused(Reason::Window, Place::Nowhere);
-    }
-    Verdict::Fine
+    Reason::Window.when(window % 2 == 1)?;
+    Reason::Window.when(window < 2)?;
+    Reason::Window.when(4096 < window)
 }
 
 // What the table says of a first and a last line: of the order of the two, then of the last line.
-fn judge_lines(first: u32, last: u32) -> Verdict
+fn judge_lines(first: u32, last: u32) -> Result<(), Refusal>
     ensures { result ≡ verdict (complaint (line_tests first last)) }
 {
-    if last < first {
-        return Verdict::Refused(Reason::LineOrder, Place::Nowhere);
-    }
-    if 16777216 < last {
-        return Verdict::Refused(Reason::LastLine, Place::Nowhere);
-    }
-    Verdict::Fine
+    Reason::LineOrder.when(last < first)?;
+    Reason::LastLine.when(16777216 < last)
 }
 
 // Inner step. What the table says of a run: its window, then its lines, then its interval.
-pub fn judge_run(run: Run) -> Verdict
+pub fn judge_run(run: Run) -> Result<(), Refusal>
     ensures { result ≡ verdict (complaint (run_tests run)) }
 {
-    if let Verdict::Refused(reason, place) = judge_window(run.window) {
-        return Verdict::Refused(reason, place);
-    }
-    if let Verdict::Refused(reason, place) = judge_lines(run.first, run.last) {
-        return Verdict::Refused(reason, place);
-    }
-    if run.interval == 0 {
-        return Verdict::Refused(Reason::Interval, Place::Nowhere);
-    }
-    Verdict::Fine
+    judge_window(run.window)?;
+    judge_lines(run.first, run.last)?;
+    Reason::Interval.when(run.interval == 0)
 }
 
 // Inner step. What the table says of a period.
-pub fn judge_period(period: u32) -> Verdict
+pub fn judge_period(period: u32) -> Result<(), Refusal>
     ensures { result ≡ verdict (complaint (period_tests period)) }
 {
-    if period == 0 {
-        return Verdict::Refused(Reason::Period, Place::Nowhere);
-    }
-    if 2147483647 < period {
-        return Verdict::Refused(Reason::Period, Place::Nowhere);
-    }
-    Verdict::Fine
+    Reason::Period.when(period == 0)?;
+    Reason::Period.when(2147483647 < period)
 }
 
 // Inner step. What the table says of a source's phase.
-pub fn judge_phase(source: Source) -> Verdict
+pub fn judge_phase(source: Source) -> Result<(), Refusal>
     ensures { result ≡ verdict (complaint (phase_tests source)) }
 {
-    if source.period <= source.phase {
-        return Verdict::Refused(Reason::Phase, Place::Nowhere);
-    }
-    Verdict::Fine
+    Reason::Phase.when(source.period <= source.phase)
 }
 
 // Inner step. What the table says of a source where no weight is given: of its period first, then of its phase.
-pub fn judge_source(source: Source) -> Verdict
+pub fn judge_source(source: Source) -> Result<(), Refusal>
     ensures { result ≡ verdict (complaint (source_tests source)) }
 {
-    let of_period = judge_period(source.period);
-    let of_phase = judge_phase(source);
-    first_of(of_period, of_phase)
+    judge_period(source.period)?;
+    judge_phase(source)
 }
 
-// Inner step. How many cells a run within the limits has: at most 4,096 on each of its lines.
+impl Run {
+    // Inner step. The run with these four numbers, in the order of a text and of a file.
+    pub fn new(window: u32, interval: u32, first: u32, last: u32) -> Run
+        ensures { result ≡ run_with window interval first last }
+    {
+        Run {
+            window,
+            interval,
+            first,
+            last,
+        }
+    }
+}
+
+// Inner step. How many cells a run within the limits has: at most 4,096 on each of its lines. (Widened by `as`, as in crate vectors.)
 pub fn cells(run: Run) -> u64
     requires { ValidRun run }
     ensures { result ≡ cells_of run }
@@ -230,7 +230,8 @@ pub fn cells(run: Run) -> u64
     run.window as u64 * (run.last - run.first + 1) as u64
 }
 
-// "(block's first line - run's first line)·I": what turns a block's cell number into the run's.
+// "(block's first line - run's first line)·I": what turns a block's cell number into the run's. Run and block stay two, each with its own
+// facts: a struct of them would serve this one shift.
 fn block_shift(run: Run, block: Run) -> u64
     requires { ValidRun run × IsBlock run block × ValidRun block }
     ensures { result ≡ shift_of run block }

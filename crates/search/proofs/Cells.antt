@@ -6,11 +6,13 @@ use native.Mathlib.Omega.{arith}
 use mathlib.Core.Path.{◌≡◌, sym, subst, ap, ◌∙◌}
 use mathlib.Core.Logic.{◌↔◌, ⊎_elim}
 use mathlib.Core.Bool.{true, false}
+use Rattle.std.specs.Prelude.{Option, Some, None}
 use Rattle.lattice.proofs.Congruence.{split, cong_iff_mod, cong_below}
 use Rattle.lattice.proofs.Differences.{On, Go, on_go, on_cong, go_mod}
 use Rattle.lattice.proofs.Row.{Leftmost, on_line, leftmost}
 use Rattle.scope.specs.declared.Run.{Run}
 use Rattle.scope.specs.declared.Source.{Source}
+use Rattle.scope.specs.declared.RunCell.{RunCell}
 use Rattle.scope.specs.Run.{ValidRun, ValidSource, lines_of, cells_of, line_of}
 use Rattle.scope.specs.Hit.{is_hit}
 use Rattle.scope.proofs.Numbering.{line_at, distance_at}
@@ -21,8 +23,7 @@ use Rattle.vectors.specs.Inner.{first_two, Successive}
 use Rattle.vectors.proofs.Found.{first_two_lem, start_left}
 use Rattle.vectors.proofs.Sequence.{size_of}
 use Rattle.search.specs.declared.Point.{Point}
-use Rattle.search.specs.declared.Found.TheVariants.{Nothing}
-use Rattle.search.specs.Inner.{Seeking, PointOf, FirstRight, FirstFrom, Enters, Sought}
+use Rattle.search.specs.Inner.{Seeking, PointOf, FirstRight, FirstFrom, FirstHit, Enters, Sought}
 
 -- ---- cells by lines and distances
 
@@ -88,7 +89,7 @@ module _ {run : Run} (v : ValidRun run) (source : Source) where
       miss_point run source z (λ o. f (z / run.window) (z % run.window) (mod-lt z (omega (arith, v.narrow))) (div-add-mod' z run.window) o)
 
   -- there is none
-  first_none : {x : ℕ} → x ≤ cells_of run → ((k e : ℕ) → e < run.window → x ≤ k * run.window + e → run.first + k ≤ run.last → Points run source e (run.first + k) → ⊥) → FirstFrom run source x (cells_of run)
+  first_none : {x : ℕ} → x ≤ cells_of run → ((k e : ℕ) → e < run.window → x ≤ k * run.window + e → run.first + k ≤ run.last → Points run source e (run.first + k) → ⊥) → FirstHit run source x None
   first_none {x} le f = record {
     from = le;
     to = omega arith;
@@ -97,24 +98,30 @@ module _ {run : Run} (v : ValidRun run) (source : Source) where
   }
 
   -- it is the cell at distance d, k lines after the first
-  first_at : (k : ℕ) {x d : ℕ} → d < run.window → x ≤ k * run.window + d → run.first + k ≤ run.last → Points run source d (run.first + k) → ((l e : ℕ) → e < run.window → x ≤ l * run.window + e → l * run.window + e < k * run.window + d → Points run source e (run.first + l) → ⊥) → FirstFrom run source x (k * run.window + d)
+  first_at : (k : ℕ) {x d : ℕ} → d < run.window → x ≤ k * run.window + d → run.first + k ≤ run.last → Points run source d (run.first + k) → ((l e : ℕ) → e < run.window → x ≤ l * run.window + e → l * run.window + e < k * run.window + d → Points run source e (run.first + l) → ⊥) → FirstHit run source x (Some (record { 0 = k * run.window + d }))
   first_at k {x} {d} h le in' o f =
-      let small = inside_cells k v h in' in
-      record {
-        from = le;
-        to = omega arith;
-        hit = λ b. hit_point run source k h o;
-        none = λ z a b. missed z (λ l e h' is o'. f l e h' (omega arith) (omega arith) o');
-      }
+      let small = inside_cells k v h in' in (
+        small,
+        record {
+          from = le;
+          to = omega arith;
+          hit = λ b. hit_point run source k h o;
+          none = λ z a b. missed z (λ l e h' is o'. f l e h' (omega arith) (omega arith) o');
+        },
+      )
 
   -- from a cell on, none being hit before the other
-  first_over : {x y z : ℕ} → x ≤ y → ((w : ℕ) → x ≤ w → w < y → is_hit run source w ≡ false) → FirstFrom run source y z → FirstFrom run source x z
-  first_over {x} {y} {z} le f h = record {
+  over : {x y z : ℕ} → x ≤ y → ((w : ℕ) → x ≤ w → w < y → is_hit run source w ≡ false) → FirstFrom run source y z → FirstFrom run source x z
+  over {x} {y} {z} le f h = record {
     from = omega (arith, h.from);
     to = h.to;
     hit = h.hit;
     none = λ w a b. ⊎_elim (λ l. f w a l) (λ g. h.none w g b) (split w y);
   }
+
+  first_over : {x y : ℕ} (found : Option RunCell) → x ≤ y → ((w : ℕ) → x ≤ w → w < y → is_hit run source w ≡ false) → FirstHit run source y found → FirstHit run source x found
+  first_over (Some cell) le f h = (h.0, over le f h.1)
+  first_over None le f h = over le f h
 
   -- ---- the first hit from a line on
 
@@ -127,10 +134,10 @@ module _ {run : Run} (v : ValidRun run) (source : Source) where
         let l : at.line ≤ run.first + k = omega arith in
         (l, way run source l o o')
 
-    line_none : (at.line - run.first) * run.window ≤ cells_of run → Sought source.period (run.interval % source.period) run.window run.last at Nothing → FirstFrom run source ((at.line - run.first) * run.window) (cells_of run)
+    line_none : (at.line - run.first) * run.window ≤ cells_of run → Sought source.period (run.interval % source.period) run.window run.last at None → FirstHit run source ((at.line - run.first) * run.window) None
     line_none le s = first_none le (λ k e h le' in' o'. let w = seen k e h le' o' in omega (arith, w.0, s (run.first + k - at.line) e h w.1))
 
-    line_found : {to : Point} → Enters source.period (run.interval % source.period) run.window run.last at to → FirstFrom run source ((at.line - run.first) * run.window) ((to.line - run.first) * run.window + to.distance)
+    line_found : {to : Point} → Enters source.period (run.interval % source.period) run.window run.last at to → FirstHit run source ((at.line - run.first) * run.window) (Some (record { 0 = (to.line - run.first) * run.window + to.distance }))
     line_found {to} s =
         let n = s.nearer in
         let m = s.moves in
@@ -157,7 +164,7 @@ module _ {run : Run} (v : ValidRun run) (source : Source) where
         let same : l ≡ x / run.window = omega (arith, rows_le {k = x / run.window} {l = l} h (omega arith)) in
         (same, row.least e (omega (arith, ap (λ y. y * run.window) same)) (subst (λ y. Points run source e (run.first + y)) same o))
 
-    row_found : x < cells_of run → d < run.window → FirstFrom run source x (x / run.window * run.window + d)
+    row_found : x < cells_of run → d < run.window → FirstHit run source x (Some (record { 0 = x / run.window * run.window + d }))
     row_found h l =
         let parts = div-add-mod' x run.window in
         let right = row.from in
@@ -204,10 +211,10 @@ module _ {run : Run} (v : ValidRun run) {source : Source} (s : ValidSource sourc
   pub point_low : at.distance < source.period
   point_low = distance_low run s at.line o.is
 
-  pub sought_cell : {to : Point} → Enters source.period (run.interval % source.period) run.window run.last at to → FirstFrom run source ((at.line - run.first) * run.window) ((to.line - run.first) * run.window + to.distance)
+  pub sought_cell : {to : Point} → Enters source.period (run.interval % source.period) run.window run.last at to → FirstHit run source ((at.line - run.first) * run.window) (Some (record { 0 = (to.line - run.first) * run.window + to.distance }))
   sought_cell h = line_found v source (distance_point run s at.line o.is) o.begun point_low h
 
-  pub sought_none : Sought source.period (run.interval % source.period) run.window run.last at Nothing → FirstFrom run source ((at.line - run.first) * run.window) (cells_of run)
+  pub sought_none : Sought source.period (run.interval % source.period) run.window run.last at None → FirstHit run source ((at.line - run.first) * run.window) None
   sought_none h = line_none v source (distance_point run s at.line o.is) o.begun point_low (lines_cells v o.short) h
 
 -- ---- the rest of a cell's line
@@ -228,12 +235,12 @@ module _ {run : Run} (v : ValidRun run) {x : ℕ} (inside : x < cells_of run) wh
         let n = h.near in
         rw e (leftmost (x % run.window) h.turns (omega arith) (omega arith) (distance_point run s (run.first + x / run.window) is))
 
-    pub rest_found : to < run.window → FirstFrom run source x (x - x % run.window + to)
+    pub rest_found : to < run.window → FirstHit run source x (Some (record { 0 = x - x % run.window + to }))
     rest_found l = rw own_row (row_found v source x row inside l)
 
-    pub rest_none : {y : ℕ} → run.window ≤ to → FirstFrom run source ((run.first + x / run.window + 1 - run.first) * run.window) y → FirstFrom run source x y
-    rest_none out f =
+    pub rest_none : (found : Option RunCell) → run.window ≤ to → FirstHit run source ((run.first + x / run.window + 1 - run.first) * run.window) found → FirstHit run source x found
+    rest_none found out f =
         let next : run.first + x / run.window + 1 - run.first ≡ x / run.window + 1 = omega arith in
         let some = v.narrow in
         let m = mod-lt x {m = run.window} (omega arith) in
-        first_over v source {y = (x / run.window + 1) * run.window} (omega (arith, div-add-mod' x run.window)) (row_none v source x row out) (rw next at f)
+        first_over v source {y = (x / run.window + 1) * run.window} found (omega (arith, div-add-mod' x run.window)) (row_none v source x row out) (rw next at f)

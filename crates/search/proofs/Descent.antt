@@ -4,6 +4,7 @@ use Prim.Native.Nat.{ℕ, ◌+◌, ◌-◌, ◌*◌, ◌≤◌, ◌<◌, max}
 use native.Mathlib.Omega.{arith}
 use mathlib.Core.Path.{◌≡◌, refl, ap, subst}
 use mathlib.Core.Bool.{true, false}
+use Rattle.std.specs.Prelude.{Option, Some, None}
 use lib.IntN.{pos, nat_abs}
 use lib.Signed.{lt_z}
 use Rattle.lattice.proofs.Multiples.{Above}
@@ -15,8 +16,6 @@ use Rattle.vectors.specs.declared.Vector.{Vector}
 use Rattle.vectors.specs.Inner.{next_of, Successive, Division}
 use Rattle.vectors.proofs.Sequence.{later, staged, side_left, side_right}
 use Rattle.search.specs.declared.Point.{Point}
-use Rattle.search.specs.declared.Found.{Found}
-use Rattle.search.specs.declared.Found.TheVariants.{At, Nothing}
 use Rattle.search.specs.Inner.{Approaching, Nearer, Seeking, Sought}
 
 -- ---- a point nearer to the window
@@ -107,10 +106,7 @@ module _ {u v : Vector} {at : Point} {window : ℕ} (h : Approaching u v at wind
 
 -- ---- what a search comes to
 
--- a point outside the window, before the end
-pub approaching : {u v : Vector} {at : Point} {window last : ℕ} → Seeking u v at window last → at.line ≤ last → window ≤ at.distance → 0 < nat_abs v.offset → Approaching u v at window
-approaching h l out some = record { division = h.division; some = some; outside = out; below = omega (arith, h.below); low = omega (arith, h.short) }
-
+-- where the search goes on from a nearer point
 pub seeking : {u v : Vector} {at to : Point} {window last : ℕ} → Seeking u v at window last → 0 < nat_abs v.offset → ((p r : ℕ) → Successive p r u v → Nearer p r v window at to) → Seeking v (next_of u v) to window last
 seeking h some near =
     let d = h.division in
@@ -121,29 +117,29 @@ seeking h some near =
     }
 
 -- past the last line
-pub sought_past : {p r window last : ℕ} {at : Point} → last < at.line → Sought p r window last at Nothing
+pub sought_past : {p r window last : ℕ} {at : Point} → last < at.line → Sought p r window last at None
 sought_past h = λ Z f l g. omega arith
 
 -- within the window
-pub sought_here : {p r window last : ℕ} {at : Point} → at.line ≤ last → at.distance < window → Sought p r window last at (At at)
+pub sought_here : {p r window last : ℕ} {at : Point} → at.line ≤ last → at.distance < window → Sought p r window last at (Some at)
 sought_here h l = record { lines = 0; first = first_here l; moves = omega arith; nearer = omega arith; inside = h }
 
 -- v's offset is 0
-pub sought_never : {p r window last : ℕ} {u v : Vector} (at : Point) → Successive p r u v → v.offset ≡ pos 0 → at.distance < max (nat_abs u.offset) window → window ≤ at.distance → Sought p r window last at Nothing
+pub sought_never : {p r window last : ℕ} {u v : Vector} (at : Point) → Successive p r u v → v.offset ≡ pos 0 → at.distance < max (nat_abs u.offset) window → window ≤ at.distance → Sought p r window last at None
 sought_never at s e near out =
     let never = last_never {d = at.distance} (ended (staged s) (ap nat_abs e)) (omega arith) in
     λ Z f l g. absurd (omega (arith, never.outside Z f g))
 
 -- from a point nearer on
-pub sought_on : {p r window : ℕ} {v : Vector} {at to : Point} (last : ℕ) (found : Found) → Nearer p r v window at to → Sought p r window last to found → Sought p r window last at found
-sought_on last (At q) n s = record {
+pub sought_on : {p r window : ℕ} {v : Vector} {at to : Point} (last : ℕ) (found : Option Point) → Nearer p r v window at to → Sought p r window last to found → Sought p r window last at found
+sought_on last (Some q) n s = record {
   lines = n.lines + s.lines;
   first = first_after n.wide n.first s.first;
   moves = omega (arith, n.moves, s.moves);
   nearer = omega (arith, n.nearer, s.nearer);
   inside = s.inside;
 }
-sought_on {p} {r} {window} {at = at} {to} last Nothing n s = λ Z f l g.
+sought_on {p} {r} {window} {at = at} {to} last None n s = λ Z f l g.
     let past : n.lines ≤ Z = n.first.least Z f (omega (arith, n.wide)) g in
     omega (arith, n.moves, s (Z - n.lines) f l (rest Z f past g))
   where

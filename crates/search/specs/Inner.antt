@@ -1,17 +1,16 @@
 -- What the inner steps of the search tell each other. A reader of the promises needs none of this.
-use Rattle.std.specs.Prelude.{ℕ, ◌+◌, ◌*◌, ◌%◌, ◌≤◌, ◌<◌, max, ◌≡◌, true, false, nat_abs}
+use Rattle.std.specs.Prelude.{ℕ, ◌+◌, ◌*◌, ◌%◌, ◌≤◌, ◌<◌, max, ◌≡◌, true, false, nat_abs, Option, Some, None}
 use Rattle.lattice.proofs.Differences.{Go}
 use Rattle.lattice.proofs.First.{First}
 use Rattle.scope.specs.declared.Run.{Run}
 use Rattle.scope.specs.declared.Source.{Source}
+use Rattle.scope.specs.declared.RunCell.{RunCell}
 use Rattle.scope.specs.Run.{cells_of}
 use Rattle.scope.specs.Hit.{is_hit}
 use Rattle.scope.proofs.Hits.{origin}
 use Rattle.vectors.specs.declared.Vector.{Vector}
 use Rattle.vectors.specs.Inner.{Division}
 use Rattle.search.specs.declared.Point.{Point}
-use Rattle.search.specs.declared.Found.{Found}
-use Rattle.search.specs.declared.Found.TheVariants.{At, Nothing}
 
 -- A point outside the window that u and v can bring nearer, since v's offset is not 0.
 pub record Approaching (u v : Vector) (at : Point) (window : ℕ) : Type 0 where
@@ -47,9 +46,9 @@ pub record Enters (p r window last : ℕ) (at to : Point) : Type 0 where
   pub inside : to.line ≤ last
 
 -- What a search comes to: the first point within the window, or none up to the last line.
-abbrev pub Sought : ℕ → ℕ → ℕ → ℕ → Point → Found → Type 0
-Sought p r window last at (At to) = Enters p r window last at to
-Sought p r window last at Nothing = (Z f : ℕ) → f < window → Go p r at.distance Z f → last < at.line + Z
+abbrev pub Sought : ℕ → ℕ → ℕ → ℕ → Point → Option Point → Type 0
+Sought p r window last at (Some to) = Enters p r window last at to
+Sought p r window last at None = (Z f : ℕ) → f < window → Go p r at.distance Z f → last < at.line + Z
 
 -- The point is the source's first right of the window's left edge, on a line of the run or on the one after it.
 pub record PointOf (run : Run) (source : Source) (at : Point) : Type 0 where
@@ -70,3 +69,8 @@ pub record FirstFrom (run : Run) (source : Source) (x y : ℕ) : Type 0 where
   pub to : y ≤ cells_of run
   pub hit : y < cells_of run → is_hit run source y ≡ true
   pub none : (z : ℕ) → x ≤ z → z < y → is_hit run source z ≡ false
+
+-- The first hit not below x, if there is one.
+abbrev pub FirstHit : Run → Source → ℕ → Option RunCell → Type 0
+FirstHit run source x (Some cell) = (cell.0 < cells_of run) × FirstFrom run source x cell.0
+FirstHit run source x None = FirstFrom run source x (cells_of run)

@@ -4,14 +4,9 @@
 
 ghost use Rattle.std.specs.Prelude.{◌≡◌, nat_abs};
 
-// Inner step. The size of x, without its sign.
-// One is added on the other side of the cast: -x itself overflows at the least i64.
+// Inner step. The size of x, without its sign: a name of its own, since a wrong program is an edit of it (`one_short`).
 pub fn size(x: i64) -> u64
     ensures { result ≡ nat_abs x }
 {
-    if x < 0 {
-        (-(x + 1)) as u64 + 1
-    } else {
-        x as u64
-    }
+    x.unsigned_abs()
 }

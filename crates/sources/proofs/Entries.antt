@@ -1,17 +1,21 @@
 -- Laws of list entries: how they follow from the three lists and give them back, and what their tests tell. Assumes nothing.
-use Prim.Native.Nat.{ℕ, suc, ◌≤◌, ◌<◌}
+use Prim.Native.Nat.{ℕ, zero, suc, ◌≤◌, ◌<◌}
+use Rattle.std.specs.Prelude.{Some}
+use Rattle.scope.specs.Run.{ceiling}
+use Rattle.std.specs.List.{slice_get}
 use mathlib.Core.Path.{◌≡◌, refl, sym, ap, ◌∙◌}
 use mathlib.Core.Logic.{◌↔◌}
 use mathlib.Core.List.{List, [], ◌∷◌, ◌++◌, map-append}
-use lib.ListN.{length, drop, length-map}
+use lib.ListN.{length, drop, length-map, drop_of_length-le}
 use lib.Seq.{drop-cons}
 use native.Mathlib.Omega.{arith}
 use borrow.Author.Tests.{ltb-false, eqb-false, ne_eqb, le-ltb}
-use Rattle.scope.specs.Refusal.{◌and_then◌, source_tests, weight_tests}
+use Rattle.scope.specs.Refusal.{◌and_then◌, of_source, source_tests, weight_tests}
 use Rattle.scope.proofs.Judged.{Passes, sound, both, source_passes, no_tests}
 use Rattle.scope.proofs.Differs.{agrees, same}
 use Rattle.scope.proofs.Limits.{passes_when, passes_first, passes_then, passes_source, valid_source, valid_source_passes}
-use Rattle.sources.specs.Entry.{Entry, entries_of, entry_tests, length_tests, list_tests, source_lists_tests}
+use Rattle.sources.specs.declared.Entry.{Entry}
+use Rattle.sources.specs.Entry.{entries_of, entry_tests, length_tests, list_tests, source_lists_tests}
 use Rattle.sources.specs.Lists.{OneLength, periods_of, weights_of, phases_of, ValidEntries}
 use Rattle.sources.specs.Table.{entry_after}
 
@@ -23,6 +27,23 @@ entries_length [] weights phases e = refl
 entries_length (p ∷ periods) [] phases e = absurd (omega (arith, e.0))
 entries_length (p ∷ periods) (w ∷ weights) [] e = absurd (omega (arith, e.1))
 entries_length (p ∷ periods) (w ∷ weights) (s ∷ phases) e = ap suc (entries_length periods weights phases (omega (arith, e.0), omega (arith, e.1)))
+
+-- the entry there, counted from 0
+pub entry_at : (periods weights phases : List ℕ) (k : ℕ) → OneLength periods weights phases → k < length periods → slice_get (entries_of periods weights phases) k ≡ Some (entry_after periods weights phases k)
+unfolding entries_of
+entry_at [] weights phases k e h = absurd (omega arith)
+entry_at (p ∷ periods) [] phases k e h = absurd (omega (arith, e.0))
+entry_at (p ∷ periods) (w ∷ weights) [] k e h = absurd (omega (arith, e.1))
+entry_at (p ∷ periods) (w ∷ weights) (s ∷ phases) zero e h = refl
+entry_at (p ∷ periods) (w ∷ weights) (s ∷ phases) (suc k) e h = entry_at periods weights phases k (omega (arith, e.0), omega (arith, e.1)) (omega arith)
+
+-- the three lists of one length are what their entries give
+pub periods_of_entries : (periods weights phases : List ℕ) → OneLength periods weights phases → periods_of (entries_of periods weights phases) ≡ periods
+unfolding entries_of periods_of
+periods_of_entries [] weights phases e = refl
+periods_of_entries (p ∷ periods) [] phases e = absurd (omega (arith, e.0))
+periods_of_entries (p ∷ periods) (w ∷ weights) [] e = absurd (omega (arith, e.1))
+periods_of_entries (p ∷ periods) (w ∷ weights) (s ∷ phases) e = ap (λ l. p ∷ l) (periods_of_entries periods weights phases (omega (arith, e.0), omega (arith, e.1)))
 
 pub entries_few : (periods weights phases : List ℕ) → length (entries_of periods weights phases) ≤ length periods
 unfolding entries_of
@@ -71,6 +92,22 @@ unfolding phases_of
 phases_append a b = map-append (λ e. e.source.phase) a b
 
 -- ---- their tests
+
+-- the entry at k and those after it, by what is there
+pub entries_on : (entries : List Entry) (k : ℕ) (e : Entry) → slice_get entries k ≡ Some e → drop k entries ≡ e ∷ drop (suc k) entries
+entries_on [] k e h = cc
+entries_on (x ∷ entries) zero e h = let z : x ≡ e = cc in rw z
+entries_on (x ∷ entries) (suc k) e h = entries_on entries k e h
+
+-- the tests of the entries from one on: that one's, and those of the entries after it
+pub tests_on : (entries : List Entry) (k : ℕ) (e : Entry) → slice_get entries k ≡ Some e → list_tests ceiling (suc k) (drop k entries) ≡ (of_source (suc k) (entry_tests ceiling e) and_then list_tests ceiling (suc (suc k)) (drop (suc k) entries))
+unfolding list_tests
+tests_on entries k e h = rw (entries_on entries k e h)
+
+-- at the end none is left
+pub tests_end : (entries : List Entry) (k : ℕ) → length entries ≤ k → Passes (list_tests ceiling (suc k) (drop k entries))
+unfolding list_tests
+tests_end entries k h = rw (drop_of_length-le entries h) no_tests
 
 -- the entries that pass their tests are those within the limits
 pub valid_entries : (c k : ℕ) (entries : List Entry) → Passes (list_tests c k entries) → ValidEntries c entries

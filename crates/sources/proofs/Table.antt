@@ -13,7 +13,8 @@ use Rattle.scope.specs.declared.Place.{Place}
 use Rattle.scope.specs.Table.{◌given◌, Says, Silent}
 use Rattle.scope.proofs.Rendered.{Renders, ◌next◌, one, either, no_rows, of_source_lem, says_split}
 use Rattle.scope.proofs.Table.{below, equal, unequal, period_renders, phase_renders}
-use Rattle.sources.specs.Entry.{Entry, entry_with, entries_of, entry_tests, length_tests, list_tests, source_lists_tests}
+use Rattle.sources.specs.declared.Entry.{Entry}
+use Rattle.sources.specs.Entry.{entry_with, entries_of, entry_tests, length_tests, list_tests, source_lists_tests}
 use Rattle.sources.specs.Lists.{OneLength}
 use Rattle.sources.specs.Table.{BadWeight, source_table, sources_table, source_lists_table, entry_after, AtFault}
 

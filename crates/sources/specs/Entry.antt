@@ -1,13 +1,9 @@
 -- Document 01 and request E5: lists of sources with their weights.
 use Rattle.std.specs.Prelude.{ℕ, suc, not, List, [], ◌∷◌, eqb, length}
-use Rattle.scope.specs.declared.Source.{Source}
 use Rattle.scope.specs.Refusal.{Tests, ◌when◌, ◌and_then◌, of_source, nothing, period_tests, weight_tests, phase_tests}
 use Rattle.scope.specs.declared.Reason.TheVariants.{Lists}
-
 -- "A source has a period p and a weight", and "a third number, its phase" (E5): an entry of a list.
-pub record Entry : Type 0 where
-  pub source : Source
-  pub weight : ℕ
+use Rattle.sources.specs.declared.Entry.{Entry}
 
 -- The entry with these three numbers, in the order of the lists.
 abbrev pub entry_with : (period weight phase : ℕ) → Entry

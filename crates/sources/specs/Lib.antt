@@ -1,3 +1,4 @@
 pub mod Entry
 pub mod Lists
 pub mod Table
+pub mod Inner

@@ -1,7 +1,7 @@
 -- Document 01: "a list of periods, a list of weights", and request E5: "phases beside periods and weights", of list entries.
 use Rattle.std.specs.Prelude.{ℕ, ◌≤◌, ◌≡◌, List, [], ◌∷◌, map, length}
 use Rattle.scope.specs.Run.{ValidSource}
-use Rattle.sources.specs.Entry.{Entry}
+use Rattle.sources.specs.declared.Entry.{Entry}
 
 -- "10 covers the third list" (E5): the three lists are of one length.
 abbrev pub OneLength : (periods weights phases : List ℕ) → Type 0

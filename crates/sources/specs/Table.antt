@@ -3,7 +3,8 @@ use Rattle.std.specs.Prelude.{ℕ, suc, ◌<◌, ◌≡◌, ◌⊎◌, ◌≢◌
 use Rattle.scope.specs.Run.{ceiling}
 use Rattle.scope.specs.declared.Place.{Place}
 use Rattle.scope.specs.Table.{Row, ◌given◌, ◌at◌given◌, Says, Silent, BadPeriod, BadPhase}
-use Rattle.sources.specs.Entry.{Entry, entry_with, entries_of}
+use Rattle.sources.specs.declared.Entry.{Entry}
+use Rattle.sources.specs.Entry.{entry_with, entries_of}
 
 -- "7: weight 0 or above 255".
 abbrev pub BadWeight : ℕ → Type 0

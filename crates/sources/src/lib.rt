@@ -2,75 +2,145 @@
 // Every function is proved. The public ones are inner steps of the crates above.
 #![tactic(auto)]
 
-ghost use Rattle.std.specs.Prelude.{◌≡◌};
-ghost use Rattle.sources.specs.Entry.{entries_of, entry_tests, length_tests, list_tests, source_lists_tests};
-ghost use Rattle.sources.specs.Lists.{OneLength};
+ghost use Rattle.std.specs.Prelude.{◌≡◌, ◌<◌, Some, length, min};
+ghost use Rattle.std.specs.List.{slice_get, reduce};
 ghost use Rattle.scope.specs.Run.{ceiling};
-ghost use Rattle.scope.specs.Refusal.{of_source, complaint, weight_tests};
+ghost use Rattle.scope.specs.Refusal.{◌and_then◌, complaint, weight_tests};
 ghost use Rattle.scope.specs.Inner.{verdict};
+ghost use Rattle.sources.specs.Entry.{entries_of, entry_tests, length_tests, list_tests, source_lists_tests};
+ghost use Rattle.sources.specs.Inner.{granted};
+ghost use Rattle.sources.specs.Lists.{OneLength, periods_of};
 
-use scope::{CEILING, Place, Reason, Source, Verdict, at_source, first_of};
+use scope::{CEILING, Reason, Refusal, Source};
+use std::marker::Model;
+
+// An entry of a list: a source and its weight.
+#[derive(Clone, Copy, PartialEq, Eq)]
+pub struct Entry {
+    pub source: Source,
+    pub weight: u32,
+}
+
+// A list of sources, which stands in three lists of one length: contracts see the list of its entries. That the lists are of one
+// length is a fact of the type. They stay three, and are not one list of entries, since so C lends them.
+#[derive(Drop)]
+pub struct Sources<'a> {
+    periods: &'a [u32],
+    weights: &'a [u32],
+    phases: &'a [u32],
+}
+
+impl<'a> Model for Sources<'a> {
+    ghost use Rattle.std.specs.Prelude.{List};
+    ghost use Rattle.sources.specs.declared.Entry.{Entry};
+    ghost use Rattle.sources.specs.Entry.{entries_of};
+    ghost use Rattle.sources.specs.Lists.{OneLength};
+
+    ghost Value = { List Entry };
+
+    ghost view = { λ s. entries_of s.periods.now s.weights.now s.phases.now };
+
+    ghost invariant = { λ s. OneLength s.periods.now s.weights.now s.phases.now };
+}
 
 // What the table says of a weight.
-fn judge_weight(weight: u32) -> Verdict
+fn judge_weight(weight: u32) -> Result<(), Refusal>
     ensures { result ≡ verdict (complaint (weight_tests ceiling weight)) }
 {
-    if weight == 0 {
-        return Verdict::Refused(Reason::Weight, Place::Nowhere);
-    }
-    if (CEILING as u32) < weight {
-        return Verdict::Refused(Reason::Weight, Place::Nowhere);
-    }
-    Verdict::Fine
+    Reason::Weight.when(weight == 0)?;
+    Reason::Weight.when(u32::from(CEILING) < weight)
 }
 
-// What it says of the source at a place of the lists, counted from 1: of its period first, then of its weight, then of its phase.
-fn judge_entry(place: u64, source: Source, weight: u32) -> Verdict
-    ensures { result ≡ verdict (complaint (of_source place (entry_tests ceiling (record { source = source; weight = weight })))) }
-{
-    let of_period = scope::judge_period(source.period);
-    let of_weight = judge_weight(weight);
-    let of_phase = scope::judge_phase(source);
-    at_source(place, first_of(first_of(of_period, of_weight), of_phase))
+impl Entry {
+    // What the table says of an entry: of its period first, then of its weight, then of its phase.
+    fn judge(self) -> Result<(), Refusal>
+        ensures { result ≡ verdict (complaint (entry_tests ceiling self)) }
+    {
+        scope::judge_period(self.source.period)?;
+        judge_weight(self.weight)?;
+        scope::judge_phase(self.source)
+    }
 }
 
-// What the table says of the length of a list that stands beside the list of periods.
-fn judge_length(periods: &[u32], beside: &[u32]) -> Verdict
-    ensures { result ≡ verdict (complaint (length_tests periods.now beside.now)) }
-{
-    if periods.len() != beside.len() {
-        return Verdict::Refused(Reason::Lists, Place::Nowhere);
+impl<'a> Sources<'a> {
+    // Inner step. The list of sources that stands in three lists of one length.
+    pub fn new(periods: &'a [u32], weights: &'a [u32], phases: &'a [u32]) -> Sources<'a>
+        requires { OneLength periods.now weights.now phases.now }
+        ensures { result ≡ entries_of periods.now weights.now phases.now }
+    {
+        Sources {
+            periods,
+            weights,
+            phases,
+        }
     }
-    Verdict::Fine
+
+    // Inner step. The same of any three lists, or what the table says where they are not of one length.
+    pub fn try_new(
+        periods: &'a [u32],
+        weights: &'a [u32],
+        phases: &'a [u32],
+    ) -> Result<Sources<'a>, Refusal>
+        ensures { result ≡ granted (complaint (length_tests periods.now weights.now and_then length_tests periods.now phases.now)) (entries_of periods.now weights.now phases.now) }
+    {
+        Reason::Lists.when(periods.len() != weights.len())?;
+        Reason::Lists.when(periods.len() != phases.len())?;
+        Ok(Sources::new(periods, weights, phases))
+    }
+
+    // Inner step. How many sources there are.
+    pub fn len(&self) -> usize
+        ensures { result ≡ length self.now }
+    {
+        self.periods.len()
+    }
+
+    // Inner step. The entry with so many before it. No iterator: three slices have none in std, and one of its own, with its laws, would
+    // serve three loops.
+    pub fn entry(&self, k: usize) -> Entry
+        requires { k < length self.now }
+        ensures { slice_get self.now k ≡ Some result }
+    {
+        let periods = self.periods;
+        let weights = self.weights;
+        let phases = self.phases;
+        Entry {
+            source: Source {
+                period: periods[k],
+                phase: phases[k],
+            },
+            weight: weights[k],
+        }
+    }
+
+    // Inner step. The shortest period, if there is a source.
+    pub fn shortest(&self) -> Option<u32>
+        ensures { result ≡ reduce min (periods_of self.now) }
+    {
+        self.periods.iter().copied().min()
+    }
+
+    // Inner step. The first fault of the sources, in the order of the list, with the place of its source, counted from 1: a period
+    // comes before the weight beside it, and that before the phase.
+    pub fn judge(&self) -> Result<(), Refusal>
+        ensures { result ≡ verdict (complaint (list_tests ceiling 1 self.now)) }
+    {
+        for k in 0..self.len() {
+            scope::at_source(k as u64 + 1, self.entry(k).judge())?;
+        }
+        Ok(())
+    }
 }
 
-// Inner step. The first fault of the listed sources, in the order of the lists, with the place of its source: a period comes before
-// the weight beside it, and that before the phase.
-pub fn judge_entries(periods: &[u32], weights: &[u32], phases: &[u32]) -> Verdict
-    requires { OneLength periods.now weights.now phases.now }
-    ensures { result ≡ verdict (complaint (list_tests ceiling 1 (entries_of periods.now weights.now phases.now))) }
+// Inner step. Three lists of sources as one, or what the table says of them: of their lengths first, then of each source.
+pub fn judge_lists<'a>(
+    periods: &'a [u32],
+    weights: &'a [u32],
+    phases: &'a [u32],
+) -> Result<Sources<'a>, Refusal>
+    ensures { result ≡ granted (complaint (source_lists_tests ceiling periods.now weights.now phases.now)) (entries_of periods.now weights.now phases.now) }
 {
-    let mut said = Verdict::Fine;
-    let mut k: usize = 0;
-    while k < periods.len() {
-        let place = k as u64 + 1;
-        let period = periods[k];
-        let phase = phases[k];
-        let next = judge_entry(place, Source { period, phase }, weights[k]);
-        said = first_of(said, next);
-        k += 1;
-    }
-    said
-}
-
-// Inner step. What the table says of three lists of sources: of their lengths first, then of each source.
-pub fn judge_lists(periods: &[u32], weights: &[u32], phases: &[u32]) -> Verdict
-    ensures { result ≡ verdict (complaint (source_lists_tests ceiling periods.now weights.now phases.now)) }
-{
-    let of_weights = judge_length(periods, weights);
-    let of_phases = judge_length(periods, phases);
-    if let Verdict::Refused(reason, place) = first_of(of_weights, of_phases) {
-        return Verdict::Refused(reason, place);
-    }
-    judge_entries(periods, weights, phases)
+    let sources = Sources::try_new(periods, weights, phases)?;
+    sources.judge()?;
+    Ok(sources)
 }

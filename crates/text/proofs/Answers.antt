@@ -1,30 +1,36 @@
 -- What a text says, from the lines that were read in it, and which reply that makes. Assumes nothing.
+use Rattle.std.specs.Prelude.{Result, Ok, Err, ltb}
+use Rattle.std.specs.Result.{IsErrAnd}
+use Rattle.std.proofs.lemmas.Result.{err_from_is_err_and}
+use borrow.Author.Tests.{ltb-false}
 use Prim.Native.Nat.{ℕ, ◌≤◌, ◌<◌}
 use native.Mathlib.Omega.{arith}
-use mathlib.Core.Path.{◌≡◌, refl, sym, ap, ◌∙◌}
+use mathlib.Core.Path.{◌≡◌, refl, sym, ap, ◌∙◌, subst}
 use mathlib.Core.List.{List, []}
 use mathlib.Core.Option.{some, none}
 use lib.ListN.{length, take, drop}
 use Rattle.rooms.specs.Lists.{zeros, padded}
 use Rattle.rooms.proofs.Lists.{length_zeros, padded_front, padded_is}
 use Rattle.words.specs.Inner.{Line, NoLine}
-use Rattle.words.specs.declared.Found.{Found}
-use Rattle.words.specs.declared.Found.TheVariants.{Next, Refused}
 use Rattle.words.proofs.Lines.{line_split}
 use Rattle.scope.specs.declared.Run.{Run}
 use Rattle.scope.specs.declared.Reason.{Reason}
-use Rattle.scope.specs.declared.Place.{Place}
+use Rattle.scope.specs.declared.Refusal.{Refusal}
 use Rattle.scope.specs.declared.Place.TheVariants.{Nowhere}
-use Rattle.scope.proofs.Judged.{Fails, Passes, refuse_reply, grant_reply, refuse_stored, grant_stored}
-use Rattle.sources.specs.Entry.{Entry, entries_of}
+use Rattle.scope.specs.declared.Reason.TheVariants.{TooMany}
+use Rattle.scope.specs.Run.{ValidRun, ceiling, cells_of}
+use Rattle.scope.specs.Refusal.{◌when◌, ◌and_then◌, run_tests}
+use Rattle.scope.proofs.Judged.{Fails, Passes, first, then, both, refuse_reply, grant_reply, grant_stored}
+use Rattle.scope.proofs.Limits.{passes_when, valid_run}
+use Rattle.sources.specs.declared.Entry.{Entry}
+use Rattle.sources.specs.Entry.{list_tests}
 use Rattle.sources.specs.Lists.{periods_of, weights_of, phases_of}
 use Rattle.sources.proofs.Entries.{entries_of_lem, periods_length, weights_length, phases_length}
 use Rattle.text.specs.Form.{run_word, run_numbers, SrcLine, src_lines, sources_meant, text_of, Content, Spells}
-use Rattle.text.specs.Promise.{most_sources, Reads, text_tests, handed, refusal, TextPromise}
-use Rattle.text.specs.Inner.{NotOfForm, Lines, stored_in, LinesListed, NoLines, SourcesAt, LinesAt}
+use Rattle.text.specs.Promise.{most_sources, most_cells, Reads, text_tests, HasSources, TextPromise, sources_in}
+use Rattle.text.specs.Inner.{NotOfForm, Lines, stored_in, Stored, AllLines, NoLines, SourcesAt, LinesAt}
 use Rattle.text.specs.declared.Input.{Input}
-use Rattle.text.specs.declared.Answer.TheVariants.{Read}
-use Rattle.text.proofs.Lines.{line_run}
+use Rattle.text.proofs.Lines.{run_of, line_run}
 use Rattle.text.proofs.Listing.{stored_fits}
 
 -- ---- what a text says
@@ -50,64 +56,112 @@ module _ {text : List ℕ} {run : Run} {at : ℕ} (l : Line text 0 run_word (run
       record { srcs = srcs; formed = record { spelled = l.stands.is ∙ rw m.is; run_small = l.small; srcs_small = m.small; short = h }; means = refl }
 
 -- what reading the `src` lines answers, after a line with four numbers
-pub all_lines : {text numbers : List ℕ} {at : ℕ} → Line text 0 run_word numbers at → length numbers ≡ 4 → length text ≤ 4096
-    → (periods weights phases periods' weights' phases' : List ℕ) (count count' : ℕ) (found : Found) → SourcesAt text at periods weights phases periods' weights' phases' count count' found → LinesAt text numbers periods weights phases periods' weights' phases' count count' found
-all_lines l h short periods weights phases periods' weights' phases' count count' (Next end) s = record { short = short; at = _; runs = l; lists = s }
-all_lines l h short periods weights phases periods' weights' phases' count count' (Refused reason) s = (s.0, no_sources (line_run l h refl) s.1, s.2)
+pub all_lines : {text numbers : List ℕ} {at : ℕ} {run : Run} → Line text 0 run_word numbers at → length numbers ≡ 4 → run ≡ run_of numbers → length text ≤ 4096
+    → (found : Result Input Reason) → SourcesAt text at run found → LinesAt text found
+all_lines l h e short (Ok input) s =
+    record { short = short; at = _; runs = rw s.of_run (line_run l h e); lists = record { srcs = s.srcs; lines = s.lines; of_run = refl; stored = s.stored } }
+all_lines l h e short (Err reason) s = (s.0, no_sources (line_run l h e) s.1)
 
 -- ---- the reply that it makes
 
 -- the refusal that was handed on
-pub refuses_form : {text : List ℕ} {reason : Reason} {input : Input} → Reads text none → NotOfForm reason → input ≡ refusal reason Nowhere → TextPromise text input
-unfolding padded zeros periods_of weights_of phases_of
-refuses_form r f e =
-    record { content = none; reads = r; says = rw (e, f); counts = rw e; periods = rw e; weights = rw e; phases = rw e }
+pub refuses_form : {text : List ℕ} {reason : Reason} {refusal : Refusal} → Reads text none → NotOfForm reason → refusal ≡ record { reason = reason; place = Nowhere }
+    → TextPromise text (Err refusal)
+refuses_form r f e = record { content = none; reads = r; says = rw (e, f); hands = tt }
 
-pub refuses : {text : List ℕ} {content : Content} {reason : Reason} {place : Place} {input : Input} → Spells text content → Fails (text_tests content) reason place
-    → input ≡ refusal reason place → TextPromise text input
-unfolding padded zeros periods_of weights_of phases_of
-refuses {content = content} s f e =
-    let empty : handed (some content) ≡ [] = sym (refuse_stored [] content.entries f) in
-    record {
-      content = some content;
-      reads = s;
-      says = rw e (refuse_reply content.run f);
-      counts = rw (e, empty);
-      periods = rw (e, empty);
-      weights = rw (e, empty);
-      phases = rw (e, empty);
-    }
+pub refuses : {text : List ℕ} {content : Content} {refusal : Refusal} → Spells text content → Fails (text_tests content) refusal.reason refusal.place → TextPromise text (Err refusal)
+refuses {content = content} s f = record { content = some content; reads = s; says = refuse_reply content.run f; hands = tt }
 
 -- the lists of zeros, after the numbers were stored at their beginning
 stored_padded : (numbers : List ℕ) (count : ℕ) → length numbers ≡ count → count ≤ most_sources → stored_in numbers (zeros most_sources) ≡ padded most_sources numbers
 stored_padded numbers count l h =
     stored_fits numbers (zeros most_sources) (omega (arith, length_zeros most_sources)) ∙ sym (padded_is most_sources numbers)
 
-module _ {text : List ℕ} {at count next : ℕ} {periods weights phases : List ℕ} (g : LinesListed text at (zeros most_sources) (zeros most_sources) (zeros most_sources) periods weights phases count next) (few : count ≤ most_sources) where
+-- the sources that an input has
+pub sources_had : {entries : List Entry} {input : Input} → HasSources entries input → sources_in input ≡ entries
+sources_had {entries} {input} g =
+    let front : (list numbers : List ℕ) → list ≡ padded most_sources numbers → length numbers ≡ length entries → take input.count list ≡ numbers =
+    λ list numbers is long. ap (take input.count) is ∙ padded_front most_sources input.count numbers (long ∙ sym g.counts) in
+    rw (front _ _ g.periods (periods_length entries), front _ _ g.weights (weights_length entries), front _ _ g.phases (phases_length entries)) (entries_of_lem entries)
+
+module _ {srcs : List SrcLine} {input : Input} (g : Stored srcs input) (few : input.count ≤ most_sources) where
   -- the sources that the lines mean
   abbrev sources : List Entry
-  sources = sources_meant g.srcs
+  sources = sources_meant srcs
 
-  pub accepts : {run : Run} → Spells text (record { run = run; entries = sources }) → Passes (text_tests (record { run = run; entries = sources }))
-      → TextPromise text (record { answer = Read run; count = count; periods = periods; weights = weights; phases = phases })
-  accepts {run} s p =
-      let all = grant_stored [] sources p in
+  has_sources : HasSources sources input
+  has_sources =
       record {
-        content = some (record { run = run; entries = sources });
-        reads = s;
-        says = grant_reply run p;
-        counts = sym g.counted ∙ ap length all;
-        periods = g.stores_periods ∙ stored_padded (periods_of sources) count (periods_length sources ∙ g.counted) few ∙ ap (λ es. padded most_sources (periods_of es)) all;
-        weights = g.stores_weights ∙ stored_padded (weights_of sources) count (weights_length sources ∙ g.counted) few ∙ ap (λ es. padded most_sources (weights_of es)) all;
-        phases = g.stores_phases ∙ stored_padded (phases_of sources) count (phases_length sources ∙ g.counted) few ∙ ap (λ es. padded most_sources (phases_of es)) all;
+        counts = sym g.counted;
+        periods = g.stores_periods ∙ stored_padded (periods_of sources) input.count (periods_length sources ∙ g.counted) few;
+        weights = g.stores_weights ∙ stored_padded (weights_of sources) input.count (weights_length sources ∙ g.counted) few;
+        phases = g.stores_phases ∙ stored_padded (phases_of sources) input.count (phases_length sources ∙ g.counted) few;
       }
 
-  -- the parts of the lists that are judged are theirs
-  pub entries_stored : entries_of (take count periods) (take count weights) (take count phases) ≡ sources
-  entries_stored =
-      let known : (numbers room : List ℕ) → room ≡ stored_in numbers (zeros most_sources) → length numbers ≡ count → take count room ≡ numbers =
-      λ numbers room e l. ap (take count) (e ∙ stored_padded numbers count l few) ∙ padded_front most_sources count numbers l in
-      let p = known (periods_of sources) periods g.stores_periods (periods_length sources ∙ g.counted) in
-      let w = known (weights_of sources) weights g.stores_weights (weights_length sources ∙ g.counted) in
-      let s = known (phases_of sources) phases g.stores_phases (phases_length sources ∙ g.counted) in
-      rw (p, w, s) (entries_of_lem sources)
+  pub accepts : {text : List ℕ} → Spells text (record { run = input.run; entries = sources }) → Passes (text_tests (record { run = input.run; entries = sources }))
+      → TextPromise text (Ok input)
+  accepts s p =
+      record {
+        content = some (record { run = input.run; entries = sources });
+        reads = s;
+        says = grant_reply input.run p;
+        hands = subst (λ es. HasSources es input) (grant_stored [] sources p) has_sources;
+      }
+
+  -- the sources that are judged are theirs
+  pub entries_stored : sources_in input ≡ sources
+  entries_stored = sources_had has_sources
+
+-- ---- the tests, one after the other
+
+-- a `?` hands on a refusal
+stops : {text : List ℕ} {content : Content} {v : Result Input Refusal} {refusal : Refusal} → Spells text content → Fails (text_tests content) refusal.reason refusal.place
+    → IsErrAnd v (λ r. r ≡ refusal) → TextPromise text v
+stops {text} {v = v} s f e = let p = err_from_is_err_and v e in subst (TextPromise text) (sym p.1) (refuses s (rw p.2 f))
+
+module _ {text : List ℕ} {input : Input} (l : AllLines text input) where
+  -- what the text says
+  abbrev said : Content
+  said = record { run = input.run; entries = sources_meant l.lists.srcs }
+
+  formed : Spells text said
+  formed = has_form l.runs l.short l.lists.lines
+
+  pub stops_at_run : {v : Result Input Refusal} {refusal : Refusal} → Fails (run_tests input.run) refusal.reason refusal.place → IsErrAnd v (λ r. r ≡ refusal) → TextPromise text v
+  unfolding text_tests
+  stops_at_run f e = stops formed (first (first (first f))) e
+
+  module _ (run_passes : Passes (run_tests input.run)) where
+    pub run_valid : ValidRun input.run
+    run_valid = valid_run run_passes (omega (arith, l.runs.small 1))
+
+    pub stops_at_count : {v : Result Input Refusal} {refusal : Refusal} → Fails (TooMany when ltb most_sources input.count) refusal.reason refusal.place → IsErrAnd v (λ r. r ≡ refusal) → TextPromise text v
+    unfolding text_tests
+    stops_at_count f e = stops formed (first (first (then run_passes (rw l.lists.stored.counted f)))) e
+
+    module _ (count_passes : Passes (TooMany when ltb most_sources input.count)) where
+      pub few : input.count ≤ most_sources
+      few = ltb-false most_sources input.count (passes_when count_passes)
+
+      both_pass : Passes (run_tests input.run and_then TooMany when ltb most_sources (length said.entries))
+      both_pass = both run_passes (rw l.lists.stored.counted count_passes)
+
+      module _ {cells : ℕ} (counted : cells ≡ cells_of input.run) where
+        pub stops_at_cells : {v : Result Input Refusal} {refusal : Refusal} → Fails (TooMany when ltb most_cells cells) refusal.reason refusal.place → IsErrAnd v (λ r. r ≡ refusal) → TextPromise text v
+        unfolding text_tests
+        stops_at_cells f e = stops formed (first (then both_pass (rw counted at f))) e
+
+        module _ (cells_pass : Passes (TooMany when ltb most_cells cells)) {entries : List Entry} (listed : entries ≡ sources_in input) where
+          three_pass : Passes (run_tests input.run and_then TooMany when ltb most_sources (length said.entries) and_then TooMany when ltb most_cells (cells_of input.run))
+          three_pass = both both_pass (rw counted at cells_pass)
+
+          judged : entries ≡ said.entries
+          judged = listed ∙ entries_stored l.lists.stored few
+
+          pub stops_at_source : {v : Result Input Refusal} {refusal : Refusal} → Fails (list_tests ceiling 1 entries) refusal.reason refusal.place → IsErrAnd v (λ r. r ≡ refusal) → TextPromise text v
+          unfolding text_tests
+          stops_at_source f e = stops formed (then three_pass (rw judged at f)) e
+
+          pub passes_all : Passes (list_tests ceiling 1 entries) → TextPromise text (Ok input)
+          unfolding text_tests
+          passes_all p = accepts l.lists.stored few formed (both three_pass (rw judged at p))

@@ -1,18 +1,26 @@
 -- The `src` lines of a text, one after the other: what is passed joins what follows, and leaves a text only one way to go on.
 -- Each law adds one line behind those passed. Assumes nothing.
-use Prim.Native.Nat.{ℕ, ◌+◌, ◌≤◌, ◌<◌}
+use Prim.Native.Nat.{ℕ, ◌≤◌, ◌<◌}
 use native.Mathlib.Omega.{arith}
 use mathlib.Core.Path.{◌≡◌, refl, sym, ap, ◌∙◌}
 use mathlib.Core.List.{List, [], ◌∷◌, ◌++◌, append_assoc, append-nil}
-use lib.ListN.{length, drop, set, length-append, length-drop, length-set, drop_of_length-le}
+use lib.ListN.{length, drop, set, length-append, length-drop, drop_of_length-le}
 use Rattle.words.specs.Line.{line}
 use Rattle.words.specs.Inner.{Spelled}
-use Rattle.words.proofs.Lines.{spelled_none, spelled_append, spelled_within, line_split}
-use Rattle.sources.specs.Entry.{Entry}
+use Rattle.words.proofs.Lines.{spelled_append, spelled_within, line_split}
+use Rattle.rooms.specs.Lists.{zeros}
+use Rattle.std.specs.Prelude.{Result, Err}
+use Rattle.std.specs.Result.{IsErrAnd}
+use Rattle.std.proofs.lemmas.Result.{err_from_is_err_and}
+use Rattle.scope.specs.declared.Run.{Run}
+use Rattle.scope.specs.declared.Reason.{Reason}
+use Rattle.sources.specs.declared.Entry.{Entry}
 use Rattle.sources.specs.Lists.{periods_of, weights_of, phases_of}
 use Rattle.sources.proofs.Entries.{periods_length, weights_length, phases_length, periods_append, weights_append, phases_append}
 use Rattle.text.specs.Form.{src_word, SrcLine, with_phase, without_phase, src_numbers, meant, src_lines, sources_meant, SrcsSmall}
-use Rattle.text.specs.Inner.{SrcStands, NoSrc, SourceStored, Lines, stored_in, LinesListed, NoLines}
+use Rattle.text.specs.declared.Input.{Input}
+use Rattle.text.specs.Promise.{most_sources}
+use Rattle.text.specs.Inner.{no_source_yet, one_more, SrcStands, NoSrc, SourceStands, SourceAt, Lines, stored_in, Stored, LinesListed, NoLines, SourcesAt}
 
 -- ---- numbers stored from the front of a room on
 
@@ -62,38 +70,30 @@ small_append (src ∷ a) b s t = (s.0, small_append a b s.1 t)
 
 -- ---- lines passed
 
--- `count` lines are passed up to `next`, and their numbers are stored; where none can follow, none stand at `at`
-pub record Listing (text : List ℕ) (at : ℕ) (periods weights phases periods' weights' phases' : List ℕ) (next count : ℕ) : Type 0 where
+-- the input has the sources of the lines that are passed up to `next`; where none can follow, none stand at `at`
+pub record Listing (text : List ℕ) (at : ℕ) (run : Run) (input : Input) (next : ℕ) : Type 0 where
   pub srcs : List SrcLine
-  pub counted : length (sources_meant srcs) ≡ count
-  pub far : count ≤ next
+  pub of_run : input.run ≡ run
+  pub stored : Stored srcs input
+  pub far : input.count ≤ next
   pub small : SrcsSmall srcs
   pub stand : Spelled text at (src_lines srcs) next
   pub refutes : NoLines text next → NoLines text at
-  pub periods_long : length periods' ≡ length periods
-  pub weights_long : length weights' ≡ length weights
-  pub phases_long : length phases' ≡ length phases
-  pub stores_periods : periods' ≡ stored_in (periods_of (sources_meant srcs)) periods
-  pub stores_weights : weights' ≡ stored_in (weights_of (sources_meant srcs)) weights
-  pub stores_phases : phases' ≡ stored_in (phases_of (sources_meant srcs)) phases
 
-pub listing_none : (text : List ℕ) (at : ℕ) (periods weights phases : List ℕ) → Listing text at periods weights phases periods weights phases at 0
+pub listing_none : {text : List ℕ} {at : ℕ} {run : Run} {input : Input} → input ≡ no_source_yet run → Listing text at run input at
 unfolding periods_of weights_of phases_of src_lines sources_meant
-listing_none text at periods weights phases =
-    record {
+listing_none e =
+    let zeroed = sym (stored_none (zeros most_sources)) in
+    rw e
+    (record {
       srcs = [];
-      counted = refl;
+      of_run = refl;
+      stored = record { counted = refl; stores_periods = zeroed; stores_weights = zeroed; stores_phases = zeroed };
       far = omega arith;
       small = tt;
-      stand = spelled_none;
+      stand = record { is = refl; ends = omega arith };
       refutes = λ n. n;
-      periods_long = refl;
-      weights_long = refl;
-      phases_long = refl;
-      stores_periods = sym (stored_none periods);
-      stores_weights = sym (stored_none weights);
-      stores_phases = sym (stored_none phases);
-    }
+    })
 
 -- a text that has not ended is no end
 not_ended : (text : List ℕ) (at : ℕ) → at < length text → drop at text ≡ [] → ⊥
@@ -127,6 +127,10 @@ module _ {text : List ℕ} {at : ℕ} {src : SrcLine} {next : ℕ} (l : SrcStand
           n.none srcs
           (record { small = m.small.1; is = (line_split src_word (src_numbers src) (src_numbers other) (drop next text) (src_lines srcs) (sym l.stands.stands.is ∙ m.is)).1 })
 
+-- a source ends after where it begins, and within the text
+pub source_ends : {text : List ℕ} {at : ℕ} {entry : Entry} {next : ℕ} → SourceStands text at entry next → (at < next) × (next ≤ length text)
+source_ends s = line_ends s.is
+
 -- where the text has not ended and no line stands, no lines do
 pub no_line : {text : List ℕ} {at : ℕ} → at < length text → NoSrc text at → NoLines text at
 unfolding src_lines
@@ -139,43 +143,33 @@ no_line {text} {at} h n = record { none = go }
 
 -- ---- one line more
 
-module _ {text : List ℕ} {at : ℕ} {periods weights phases periods' weights' phases' : List ℕ} {next count : ℕ}
-    (g : Listing text at periods weights phases periods' weights' phases' next count) where
-  pub listing_more : {end : ℕ} {periods'' weights'' phases'' : List ℕ} → SourceStored text next periods' weights' phases' count periods'' weights'' phases'' end
-      → Listing text at periods weights phases periods'' weights'' phases'' end (count + 1)
+module _ {text : List ℕ} {at : ℕ} {run : Run} {input : Input} {next : ℕ} (g : Listing text at run input next) where
+  pub listing_more : {entry : Entry} {after : Input} {end : ℕ} → SourceStands text next entry end → after ≡ one_more input entry → Listing text at run after end
   unfolding periods_of weights_of phases_of src_lines sources_meant
-  listing_more s =
+  listing_more {entry} s e =
       let l = s.is in
       let front = g.srcs in
       let new = s.src ∷ [] in
       let sources = meant_append front new in
-      record {
+      let before = g.stored in
+      let room = zeros most_sources in
+      rw e
+      (record {
         srcs = front ++ new;
-        counted = ap length sources ∙ length-append (sources_meant front) (sources_meant new) ∙ omega (arith, g.counted);
+        of_run = g.of_run;
+        stored = record {
+          counted = ap length sources ∙ length-append (sources_meant front) (sources_meant new) ∙ omega (arith, before.counted);
+          stores_periods = rw sources (stored_behind periods_of periods_append periods_length (sources_meant front) (meant s.src) room before.counted (rw s.means) before.stores_periods refl);
+          stores_weights = rw sources (stored_behind weights_of weights_append weights_length (sources_meant front) (meant s.src) room before.counted (rw s.means) before.stores_weights refl);
+          stores_phases = rw sources (stored_behind phases_of phases_append phases_length (sources_meant front) (meant s.src) room before.counted (rw s.means) before.stores_phases refl);
+        };
         far = omega (arith, g.far, line_ends l);
         small = small_append front new g.small (l.stands.small, tt);
         stand = rw (src_lines_append front new, append-nil) (spelled_append g.stand l.stands.stands);
         refutes = λ n. g.refutes (line_refutes l n);
-        periods_long = ap length s.stores_period ∙ simp length-set g.periods_long;
-        weights_long = ap length s.stores_weight ∙ simp length-set g.weights_long;
-        phases_long = ap length s.stores_phase ∙ simp length-set g.phases_long;
-        stores_periods = rw sources (stored_behind periods_of periods_append periods_length (sources_meant front) (meant s.src) periods g.counted refl g.stores_periods s.stores_period);
-        stores_weights = rw sources (stored_behind weights_of weights_append weights_length (sources_meant front) (meant s.src) weights g.counted refl g.stores_weights s.stores_weight);
-        stores_phases = rw sources (stored_behind phases_of phases_append phases_length (sources_meant front) (meant s.src) phases g.counted refl g.stores_phases s.stores_phase);
-      }
+      })
 
-  pub listing_ends : length text ≤ next → LinesListed text at periods weights phases periods' weights' phases' count next
-  listing_ends h =
-      record {
-        srcs = g.srcs;
-        lines = record { small = g.small; is = g.stand.is ∙ rw (drop_of_length-le text h, append-nil) };
-        stand = g.stand;
-        counted = g.counted;
-        stores_periods = g.stores_periods;
-        stores_weights = g.stores_weights;
-        stores_phases = g.stores_phases;
-      }
-
-  -- the text goes on, and not with a line
-  pub listing_fails : next < length text → NoSrc text next → NoLines text at
-  listing_fails h n = g.refutes (no_line h n)
+  -- the text goes on, and not with a line: a `?` hands on the reason
+  pub listing_fails : {reason : Reason} (v : Result Input Reason) → next < length text → SourceAt text next (Err reason) → IsErrAnd v (λ r. r ≡ reason)
+      → SourcesAt text at run v
+  listing_fails v h n e = let p = err_from_is_err_and v e in rw (p.1, p.2) (n.0, g.refutes (no_line h n.1))

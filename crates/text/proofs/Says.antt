@@ -10,8 +10,8 @@ use lib.ListN.{length}
 use Rattle.words.proofs.Standing.{line_found}
 use Rattle.text.specs.Form.{run_word, src_word, SrcLine, sources_meant, Content}
 use Rattle.text.specs.Promise.{Reads}
-use Rattle.text.specs.Inner.{SrcStands, NoSrc, Lines, NoLines, run_of}
-use Rattle.text.proofs.Lines.{line_unphased, line_phased, line_run}
+use Rattle.text.specs.Inner.{SrcStands, NoSrc, Lines, NoLines}
+use Rattle.text.proofs.Lines.{run_of, line_unphased, line_phased, line_run}
 use Rattle.text.proofs.Listing.{lines_end, line_joins, line_refutes, line_ends, no_line}
 use Rattle.text.proofs.Answers.{too_long, no_run, no_sources, has_form}
 

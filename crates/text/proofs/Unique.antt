@@ -1,29 +1,29 @@
 -- A text says one thing at most, and no second reply fits; some reply does; when it is accepted. Assumes nothing.
 use Prim.Native.Nat.{ℕ}
 use native.Mathlib.Omega.{arith}
-use mathlib.Core.Path.{◌≡◌, refl, sym, ap, ap₂, ◌∙◌, subst}
+use mathlib.Core.Path.{◌≡◌, refl, sym, ap, ◌∙◌, subst}
+use Rattle.std.specs.Prelude.{Result, Ok, Err}
 use mathlib.Core.Logic.{◌↔◌, ◌⊎◌, inl, inr}
 use mathlib.Core.List.{List, [], ◌∷◌}
 use mathlib.Core.Option.{Option, some, none}
-use lib.ListN.{length, get_or, take}
+use lib.ListN.{length, get_or}
 use Rattle.rooms.specs.Lists.{padded}
-use Rattle.rooms.proofs.Lists.{padded_front}
 use Rattle.words.specs.Line.{line}
 use Rattle.words.proofs.Lines.{line_split}
 use Rattle.scope.specs.declared.Run.{Run}
-use Rattle.scope.specs.Refusal.{Complaint, complaint}
+use Rattle.scope.specs.Refusal.{complaint}
+use Rattle.scope.specs.declared.Refusal.{Refusal}
 use Rattle.scope.specs.declared.Reason.TheVariants.{Text}
 use Rattle.scope.specs.declared.Place.TheVariants.{Nowhere}
-use Rattle.scope.specs.Reply.{answered, reply, stored}
-use Rattle.scope.proofs.Judged.{Fails, Passes, same_refusal, refuse_reply, grant_reply, grant_stored}
+use Rattle.scope.specs.Reply.{answered, reply as reply_with, stored}
+use Rattle.scope.proofs.Judged.{Fails, Passes, same_refusal, said_refused, refuse_reply, refuse_stored, grant_reply, grant_stored}
 use Rattle.scope.proofs.Rendered.{judged}
+use Rattle.sources.specs.declared.Entry.{Entry}
 use Rattle.sources.specs.Lists.{periods_of, weights_of, phases_of}
-use Rattle.sources.proofs.Entries.{entries_of_lem, periods_length, weights_length, phases_length}
 use Rattle.text.specs.Form.{run_word, src_word, run_numbers, SrcLine, with_phase, without_phase, src_numbers, src_lines, sources_meant, text_of, Content, Spells}
-use Rattle.text.specs.Promise.{most_sources, Reads, text_tests, reply_to, handed, says_text, TextPromise, sources_of}
-use Rattle.text.specs.declared.Answer.{Answer}
-use Rattle.text.specs.declared.Answer.TheVariants.{Read, Refused}
+use Rattle.text.specs.Promise.{most_sources, Reads, text_tests, reply_to, handed, says_text, HasSources, Hands, TextPromise, sources_of}
 use Rattle.text.specs.declared.Input.{Input}
+use Rattle.text.proofs.Answers.{sources_had}
 use Rattle.text.proofs.Says.{reads_exists}
 
 -- ---- the rendering is injective
@@ -67,55 +67,59 @@ reads_unique text none (some b) r s = absurd (r b s)
 reads_unique text (some a) none r s = absurd (s a r)
 reads_unique text (some a) (some b) r s = ap some (spells_unique r s)
 
-says_text_injective : (a b : Answer) → says_text a ≡ says_text b → a ≡ b
-says_text_injective (Read r) (Read s) e = cc
-says_text_injective (Read r) (Refused reason place) e = cc
-says_text_injective (Refused reason place) (Read s) e = cc
-says_text_injective (Refused reason place) (Refused reason' place') e = let s = same_refusal e in ap₂ Refused s.0 s.1
+-- two inputs with one run and the same sources
+has_same : {entries : List Entry} {a b : Input} → a.run ≡ b.run → HasSources entries a → HasSources entries b → a ≡ b
+has_same {a = a} {b} e g h =
+    let counts : a.count ≡ b.count = g.counts ∙ sym h.counts in
+    let periods : a.periods ≡ b.periods = g.periods ∙ sym h.periods in
+    let weights : a.weights ≡ b.weights = g.weights ∙ sym h.weights in
+    let phases : a.phases ≡ b.phases = g.phases ∙ sym h.phases in
+    λ k. record { run = e k; count = counts k; periods = periods k; weights = weights k; phases = phases k }
+
+reply_same : (i j : Result Input Refusal) (entries : List Entry) → says_text i ≡ says_text j → Hands entries i → Hands entries j → i ≡ j
+reply_same (Ok a) (Ok b) entries e g h = let runs : a.run ≡ b.run = cc in ap Ok (has_same runs g h)
+reply_same (Ok a) (Err s) entries e g h = cc
+reply_same (Err r) (Ok b) entries e g h = cc
+reply_same (Err r) (Err s) entries e g h = let same = same_refusal e in ap Err (λ k. record { reason = same.0 k; place = same.1 k })
 
 -- no second reply fits
-pub text_unique : (text : List ℕ) (i j : Input) → TextPromise text i → TextPromise text j → i ≡ j
+pub text_unique : (text : List ℕ) (i j : Result Input Refusal) → TextPromise text i → TextPromise text j → i ≡ j
 text_unique text i j p q =
     let e = reads_unique text p.content q.content p.reads q.reads in
-    let answers : i.answer ≡ j.answer = says_text_injective i.answer j.answer (p.says ∙ rw e (sym q.says)) in
-    let counts : i.count ≡ j.count = p.counts ∙ rw e (sym q.counts) in
-    let periods : i.periods ≡ j.periods = p.periods ∙ rw e (sym q.periods) in
-    let weights : i.weights ≡ j.weights = p.weights ∙ rw e (sym q.weights) in
-    let phases : i.phases ≡ j.phases = p.phases ∙ rw e (sym q.phases) in
-    λ k. record { answer = answers k; count = counts k; periods = periods k; weights = weights k; phases = phases k }
+    reply_same i j (handed p.content) (p.says ∙ rw e (sym q.says)) p.hands (subst (λ o. Hands (handed o) j) (sym e) q.hands)
 
 -- ---- some reply fits: every text says something, or it has not the form
 
-answer : (o : Option Content) → (a : Answer) × (says_text a ≡ reply_to o)
-answer none = (Refused Text Nowhere, refl)
-answer (some content) = go (judged (text_tests content))
+answer : (text : List ℕ) (o : Option Content) → Reads text o → (reply : Result Input Refusal) × TextPromise text reply
+answer text none r = (Err (record { reason = Text; place = Nowhere }), record { content = none; reads = r; says = refl; hands = tt })
+answer text (some content) r = go (judged (text_tests content))
   where
-    go : Passes (text_tests content) ⊎ ((c : Complaint) × Fails (text_tests content) c.reason c.place) → (a : Answer) × (says_text a ≡ reply_to (some content))
-    go (inl p) = (Read content.run, grant_reply content.run p)
-    go (inr f) = (Refused f.0.reason f.0.place, refuse_reply content.run f.1)
+    go : Passes (text_tests content) ⊎ ((c : Refusal) × Fails (text_tests content) c.reason c.place) → (reply : Result Input Refusal) × TextPromise text reply
+    go (inl p) =
+        let es = handed (some content) in (
+          Ok (record { run = content.run; count = length es; periods = padded most_sources (periods_of es); weights = padded most_sources (weights_of es); phases = padded most_sources (phases_of es) }),
+          record { content = some content; reads = r; says = grant_reply content.run p; hands = record { counts = refl; periods = refl; weights = refl; phases = refl } },
+        )
+    go (inr f) = (Err f.0, record { content = some content; reads = r; says = refuse_reply content.run f.1; hands = tt })
 
-pub text_exists : (text : List ℕ) → (input : Input) × TextPromise text input
-text_exists text =
-    let (o, r) = reads_exists text in
-    let (a, says) = answer o in (
-      record { answer = a; count = length (handed o); periods = padded most_sources (periods_of (handed o)); weights = padded most_sources (weights_of (handed o)); phases = padded most_sources (phases_of (handed o)) },
-      record { content = o; reads = r; says = says; counts = refl; periods = refl; weights = refl; phases = refl },
-    )
+pub text_exists : (text : List ℕ) → (reply : Result Input Refusal) × TextPromise text reply
+text_exists text = let found = reads_exists text in answer text found.0 found.1
 
 -- ---- accepted with a run and sources exactly if the text says them and they pass the tests
 
-pub sources_handed : (text : List ℕ) (input : Input) (p : TextPromise text input) → sources_of input ≡ handed p.content
-sources_handed text input p =
-    let es = handed p.content in
-    let front : (list numbers : List ℕ) → list ≡ padded most_sources numbers → length numbers ≡ length es → take input.count list ≡ numbers =
-    λ list numbers is long. ap (take input.count) is ∙ padded_front most_sources input.count numbers (long ∙ sym p.counts) in
-    rw (front _ _ p.periods (periods_length es), front _ _ p.weights (weights_length es), front _ _ p.phases (phases_length es)) (entries_of_lem es)
-
-pub accepted : (text : List ℕ) (input : Input) → TextPromise text input → (d : Content)
-    → ((input.answer ≡ Read d.run) × (sources_of input ≡ d.entries)) ↔ (Spells text d × Passes (text_tests d))
-accepted text input p d = (λ e. go p.content p.reads (sym (ap says_text e.0) ∙ p.says) (sym (sources_handed text input p) ∙ e.1), back)
+pub sources_handed : (text : List ℕ) (reply : Result Input Refusal) (p : TextPromise text reply) → sources_of reply ≡ handed p.content
+sources_handed text (Ok input) p = sources_had p.hands
+sources_handed text (Err refusal) p = none_handed p.content p.says
   where
-    passed : (d' : Content) → Spells text d' → (x : Option Complaint) → complaint (text_tests d') ≡ x → answered d.run ≡ reply x d'.run
+    none_handed : (o : Option Content) → says_text (Err refusal) ≡ reply_to o → [] ≡ handed o
+    none_handed none e = refl
+    none_handed (some content) e = refuse_stored [] content.entries (said_refused (text_tests content) content.run e)
+
+pub accepted : (text : List ℕ) (reply : Result Input Refusal) → TextPromise text reply → (d : Content)
+    → ((says_text reply ≡ answered d.run) × (sources_of reply ≡ d.entries)) ↔ (Spells text d × Passes (text_tests d))
+accepted text reply p d = (λ e. go p.content p.reads (sym e.0 ∙ p.says) (sym (sources_handed text reply p) ∙ e.1), back)
+  where
+    passed : (d' : Content) → Spells text d' → (x : Option Refusal) → complaint (text_tests d') ≡ x → answered d.run ≡ reply_with x d'.run
         → stored x [] d'.entries ≡ d.entries → Spells text d × Passes (text_tests d)
     passed d' s none c e h =
         let runs : d.run ≡ d'.run = cc in
@@ -127,9 +131,9 @@ accepted text input p d = (λ e. go p.content p.reads (sym (ap says_text e.0) �
     go none r e h = absurd (let z : ◌≡◌ {A = ℕ} 0 1 = cc in omega arith)
     go (some d') r e h = passed d' r (complaint (text_tests d')) refl e h
 
-    back : Spells text d × Passes (text_tests d) → (input.answer ≡ Read d.run) × (sources_of input ≡ d.entries)
+    back : Spells text d × Passes (text_tests d) → (says_text reply ≡ answered d.run) × (sources_of reply ≡ d.entries)
     back s =
         let e = reads_unique text p.content (some d) p.reads s.0 in (
-          says_text_injective input.answer (Read d.run) (p.says ∙ ap reply_to e ∙ sym (grant_reply d.run s.1)),
-          sources_handed text input p ∙ ap handed e ∙ sym (grant_stored [] d.entries s.1),
+          p.says ∙ ap reply_to e ∙ sym (grant_reply d.run s.1),
+          sources_handed text reply p ∙ ap handed e ∙ sym (grant_stored [] d.entries s.1),
         )

@@ -4,7 +4,8 @@ use Rattle.rooms.specs.Lists.{UpTo}
 use Rattle.decimal.specs.Digits.{largest}
 use Rattle.words.specs.Line.{line}
 use Rattle.scope.specs.declared.Run.{Run}
-use Rattle.sources.specs.Entry.{Entry, entry_with}
+use Rattle.sources.specs.declared.Entry.{Entry}
+use Rattle.sources.specs.Entry.{entry_with}
 
 -- The word `run`.
 abbrev pub run_word : List ℕ

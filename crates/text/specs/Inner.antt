@@ -1,30 +1,37 @@
--- What the inner steps of reading answer, from `at` on in the text: where that ends which stands there, or the refusal where nothing of
+-- What the inner steps of reading answer, from `at` on in the text: what stands there and where it ends, or the refusal where nothing of
 -- the kind does. A refusal carries its reason from where it arises, and each step hands it on.
-use Rattle.std.specs.Prelude.{ℕ, ◌≤◌, ◌≡◌, List, [], ◌∷◌, length, drop, get_or, set}
+use Rattle.std.specs.Prelude.{ℕ, ◌+◌, ◌≤◌, ◌≡◌, List, [], ◌∷◌, Result, Ok, Err, length, drop, set}
 use Rattle.std.proofs.Math.Option.{none}
-use Rattle.words.specs.Inner.{Spelled, Line, NoLine}
-use Rattle.words.specs.declared.Found.{Found}
-use Rattle.words.specs.declared.Found.TheVariants.{Next, Refused}
+use Rattle.rooms.specs.Lists.{zeros}
+use Rattle.words.specs.Inner.{Line, NoLine}
 use Rattle.scope.specs.declared.Run.{Run}
 use Rattle.scope.specs.declared.Reason.{Reason}
 use Rattle.scope.specs.declared.Reason.TheVariants.{Text}
-use Rattle.sources.specs.Entry.{Entry}
+use Rattle.sources.specs.declared.Entry.{Entry}
 use Rattle.sources.specs.Lists.{periods_of, weights_of, phases_of}
-use Rattle.text.specs.Form.{run_word, src_word, SrcLine, src_numbers, meant, src_lines, sources_meant, SrcsSmall}
-use Rattle.text.specs.Promise.{Reads}
+use Rattle.text.specs.Form.{run_word, src_word, run_numbers, SrcLine, src_numbers, meant, src_lines, sources_meant, SrcsSmall}
+use Rattle.text.specs.Promise.{most_sources, Reads}
+use Rattle.text.specs.declared.Input.{Input}
 
 -- "Anything else in the text is refused 11": the reason that a refusal carries.
 abbrev pub NotOfForm : Reason → Type 0
 NotOfForm reason = reason ≡ Text
 
--- The three numbers of a source, as a `src` line has them.
-abbrev pub numbers_of : Entry → List ℕ
-numbers_of entry = entry.source.period ∷ entry.weight ∷ entry.source.phase ∷ []
+-- A run, and no source yet.
+abbrev pub no_source_yet : Run → Input
+no_source_yet run =
+    record { run = run; count = 0; periods = zeros most_sources; weights = zeros most_sources; phases = zeros most_sources }
 
--- The run that a line's four numbers say.
-abbrev pub run_of : List ℕ → Run
-run_of numbers =
-    record { window = get_or numbers 0 0; interval = get_or numbers 1 0; first = get_or numbers 2 0; last = get_or numbers 3 0 }
+-- One source more, stored behind the others where there is room for it.
+abbrev pub one_more : Input → Entry → Input
+one_more input entry =
+    record {
+      run = input.run;
+      count = input.count + 1;
+      periods = set input.periods input.count entry.source.period;
+      weights = set input.weights input.count entry.weight;
+      phases = set input.phases input.count entry.source.phase;
+    }
 
 -- A `src` line stands at `at`, up to `next`: this one.
 pub record SrcStands (text : List ℕ) (at : ℕ) (src : SrcLine) (next : ℕ) : Type 0 where
@@ -35,23 +42,16 @@ pub record NoSrc (text : List ℕ) (at : ℕ) : Type 0 where
   pub long : NoLine text at src_word 3
   pub short : NoLine text at src_word 2
 
--- A `src` line is looked for; the room has its period, its weight and its phase, 0 where it has none.
-abbrev pub NumbersAt : List ℕ → ℕ → List ℕ → Found → Type 0
-NumbersAt text at numbers (Next next) = (src : SrcLine) × SrcStands text at src next × (numbers ≡ numbers_of (meant src))
-NumbersAt text at numbers (Refused reason) = NotOfForm reason × NoSrc text at
-
--- A `src` line stands at `at`, up to `next`, and the three lists have the numbers that it means at k.
-pub record SourceStored (text : List ℕ) (at : ℕ) (periods weights phases : List ℕ) (k : ℕ) (periods' weights' phases' : List ℕ) (next : ℕ) : Type 0 where
+-- A `src` line stands at `at`, up to `next`, and means this source.
+pub record SourceStands (text : List ℕ) (at : ℕ) (entry : Entry) (next : ℕ) : Type 0 where
   pub src : SrcLine
   pub is : SrcStands text at src next
-  pub stores_period : periods' ≡ set periods k (meant src).source.period
-  pub stores_weight : weights' ≡ set weights k (meant src).weight
-  pub stores_phase : phases' ≡ set phases k (meant src).source.phase
+  pub means : meant src ≡ entry
 
--- A `src` line is looked for, and its numbers are stored.
-abbrev pub SourceAt : List ℕ → ℕ → (periods weights phases : List ℕ) → ℕ → (periods' weights' phases' : List ℕ) → Found → Type 0
-SourceAt text at periods weights phases k periods' weights' phases' (Next next) = SourceStored text at periods weights phases k periods' weights' phases' next
-SourceAt text at periods weights phases k periods' weights' phases' (Refused reason) = NotOfForm reason × NoSrc text at
+-- A `src` line is looked for.
+abbrev pub SourceAt : List ℕ → ℕ → Result (Entry × ℕ) Reason → Type 0
+SourceAt text at (Ok found) = SourceStands text at found.0 found.1
+SourceAt text at (Err reason) = NotOfForm reason × NoSrc text at
 
 -- From `at` on the text has these `src` lines and nothing else.
 pub record Lines (text : List ℕ) (at : ℕ) (srcs : List SrcLine) : Type 0 where
@@ -68,29 +68,33 @@ stored_in numbers [] = []
 stored_in [] (old ∷ room) = old ∷ room
 stored_in (n ∷ numbers) (old ∷ room) = n ∷ stored_in numbers room
 
--- From `at` on the text has so many `src` lines, up to `next`, and nothing else; the three lists have the numbers that they mean.
-pub record LinesListed (text : List ℕ) (at : ℕ) (periods weights phases periods' weights' phases' : List ℕ) (count next : ℕ) : Type 0 where
+-- The sources that these lines mean are counted, and stored as far as there is room for them.
+pub record Stored (srcs : List SrcLine) (input : Input) : Type 0 where
+  pub counted : length (sources_meant srcs) ≡ input.count
+  pub stores_periods : input.periods ≡ stored_in (periods_of (sources_meant srcs)) (zeros most_sources)
+  pub stores_weights : input.weights ≡ stored_in (weights_of (sources_meant srcs)) (zeros most_sources)
+  pub stores_phases : input.phases ≡ stored_in (phases_of (sources_meant srcs)) (zeros most_sources)
+
+-- From `at` on the text has `src` lines and nothing else; with this run, their sources are the input.
+pub record LinesListed (text : List ℕ) (at : ℕ) (run : Run) (input : Input) : Type 0 where
   pub srcs : List SrcLine
   pub lines : Lines text at srcs
-  pub stand : Spelled text at (src_lines srcs) next
-  pub counted : length (sources_meant srcs) ≡ count
-  pub stores_periods : periods' ≡ stored_in (periods_of (sources_meant srcs)) periods
-  pub stores_weights : weights' ≡ stored_in (weights_of (sources_meant srcs)) weights
-  pub stores_phases : phases' ≡ stored_in (phases_of (sources_meant srcs)) phases
+  pub of_run : input.run ≡ run
+  pub stored : Stored srcs input
 
--- `src` lines are looked for, up to the end. Where something else stands the count is as it was, and of the lists nothing is said.
-abbrev pub SourcesAt : List ℕ → ℕ → (periods weights phases periods' weights' phases' : List ℕ) → ℕ → ℕ → Found → Type 0
-SourcesAt text at periods weights phases periods' weights' phases' count count' (Next next) = LinesListed text at periods weights phases periods' weights' phases' count' next
-SourcesAt text at periods weights phases periods' weights' phases' count count' (Refused reason) = NotOfForm reason × NoLines text at × (count' ≡ count)
+-- `src` lines are looked for, up to the end.
+abbrev pub SourcesAt : List ℕ → ℕ → Run → Result Input Reason → Type 0
+SourcesAt text at run (Ok input) = LinesListed text at run input
+SourcesAt text at run (Err reason) = NotOfForm reason × NoLines text at
 
--- The text is a `run` line with these numbers and, after it, so many `src` lines, whose numbers the three lists have.
-pub record AllLines (text numbers periods weights phases periods' weights' phases' : List ℕ) (count next : ℕ) : Type 0 where
+-- The text is a `run` line and, after it, `src` lines, which say this.
+pub record AllLines (text : List ℕ) (input : Input) : Type 0 where
   pub short : length text ≤ 4096
   pub at : ℕ
-  pub runs : Line text 0 run_word numbers at
-  pub lists : LinesListed text at periods weights phases periods' weights' phases' count next
+  pub runs : Line text 0 run_word (run_numbers input.run) at
+  pub lists : LinesListed text at input.run input
 
--- The lines of a whole text are looked for; where the text has not the form the count is as it was.
-abbrev pub LinesAt : (text numbers periods weights phases periods' weights' phases' : List ℕ) → ℕ → ℕ → Found → Type 0
-LinesAt text numbers periods weights phases periods' weights' phases' count count' (Next next) = AllLines text numbers periods weights phases periods' weights' phases' count' next
-LinesAt text numbers periods weights phases periods' weights' phases' count count' (Refused reason) = NotOfForm reason × Reads text none × (count' ≡ count)
+-- The lines of a whole text are looked for.
+abbrev pub LinesAt : List ℕ → Result Input Reason → Type 0
+LinesAt text (Ok input) = AllLines text input
+LinesAt text (Err reason) = NotOfForm reason × Reads text none

@@ -1,21 +1,19 @@
 -- The promise of reading a text: what it replies and stores, by what the text says. No way of reading is named.
-use Rattle.std.specs.Prelude.{ℕ, ◌≡◌, List, [], ltb, length, take}
+use Rattle.std.specs.Prelude.{ℕ, ◌≡◌, List, [], Result, Ok, Err, ltb, length, take}
 use Rattle.std.proofs.Math.Option.{Option, some, none}
-use Rattle.rooms.specs.Lists.{zeros, padded}
+use Rattle.rooms.specs.Lists.{padded}
 use Rattle.scope.specs.declared.Run.{Run}
 use Rattle.scope.specs.Run.{ceiling, cells_of}
 use Rattle.scope.specs.Refusal.{Tests, ◌when◌, ◌and_then◌, complaint, number, run_tests}
-use Rattle.scope.specs.declared.Reason.{Reason}
 use Rattle.scope.specs.declared.Reason.TheVariants.{TooMany, Text}
-use Rattle.scope.specs.declared.Place.{Place}
 use Rattle.scope.specs.declared.Place.TheVariants.{Nowhere}
+use Rattle.scope.specs.declared.Refusal.{Refusal}
 use Rattle.scope.specs.Reply.{Said, refused, answered, reply, stored}
-use Rattle.sources.specs.Entry.{Entry, entries_of, list_tests}
+use Rattle.sources.specs.declared.Entry.{Entry}
+use Rattle.sources.specs.Entry.{entries_of, list_tests}
 use Rattle.sources.specs.Lists.{periods_of, weights_of, phases_of}
 use Rattle.text.specs.Form.{Content, Spells}
-use Rattle.text.specs.declared.Answer.{Answer}
 use Rattle.text.specs.declared.Input.{Input}
-use Rattle.text.specs.declared.Answer.TheVariants.{Read, Refused}
 
 -- What a text says, or that it has not the form.
 abbrev pub Reads : List ℕ → Option Content → Type 0
@@ -49,24 +47,35 @@ handed none = []
 handed (some content) = stored (complaint (text_tests content)) [] content.entries
 
 -- What a reply to a text says: the run, or a refusal's number and place.
-abbrev pub says_text : Answer → Said Run
-says_text (Read run) = answered run
-says_text (Refused reason place) = refused (number reason) place
+abbrev pub says_text : Result Input Refusal → Said Run
+says_text (Ok input) = answered input.run
+says_text (Err refusal) = refused (number refusal.reason) refusal.place
+
+-- The sources that go with a run are these: so many are counted, their numbers are at the beginning of the three lists, and all the
+-- rest is 0.
+pub record HasSources (entries : List Entry) (input : Input) : Type 0 where
+  pub counts : input.count ≡ length entries
+  pub periods : input.periods ≡ padded most_sources (periods_of entries)
+  pub weights : input.weights ≡ padded most_sources (weights_of entries)
+  pub phases : input.phases ≡ padded most_sources (phases_of entries)
+
+-- These sources are handed out; with a refusal nothing is.
+abbrev pub Hands : List Entry → Result Input Refusal → Type 0
+Hands entries (Ok input) = HasSources entries input
+Hands entries (Err refusal) = Unit {0}
 
 -- The promise of reading a text: its reply, and the sources that go with it.
-pub record TextPromise (text : List ℕ) (input : Input) : Type 0 where
+pub record TextPromise (text : List ℕ) (reply : Result Input Refusal) : Type 0 where
   pub content : Option Content
   pub reads : Reads text content
-  pub says : says_text input.answer ≡ reply_to content
-  pub counts : input.count ≡ length (handed content)
-  pub periods : input.periods ≡ padded most_sources (periods_of (handed content))
-  pub weights : input.weights ≡ padded most_sources (weights_of (handed content))
-  pub phases : input.phases ≡ padded most_sources (phases_of (handed content))
+  pub says : says_text reply ≡ reply_to content
+  pub hands : Hands (handed content) reply
 
--- "`src` .. lines, none or more": the sources that a reply hands out, as many as it counts.
-abbrev pub sources_of : Input → List Entry
-sources_of input = entries_of (take input.count input.periods) (take input.count input.weights) (take input.count input.phases)
+-- "`src` .. lines, none or more": the sources that go with a run, as many as are counted.
+abbrev pub sources_in : Input → List Entry
+sources_in input = entries_of (take input.count input.periods) (take input.count input.weights) (take input.count input.phases)
 
--- A refusal, and nothing handed out with it.
-abbrev pub refusal : Reason → Place → Input
-refusal reason place = record { answer = Refused reason place; count = 0; periods = zeros most_sources; weights = zeros most_sources; phases = zeros most_sources }
+-- The sources that a reply hands out.
+abbrev pub sources_of : Result Input Refusal → List Entry
+sources_of (Ok input) = sources_in input
+sources_of (Err refusal) = []

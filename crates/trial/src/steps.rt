@@ -1,96 +1,106 @@
 // The step vectors, held against the conditions of 01.
-use signed::size;
+use scope::Refusal;
 use trying::draw::Case;
-use trying::reference::{Refusal, first_of, when};
-use trying::{draw, numbers, reference, refusals};
+use trying::numbers::low32;
+use trying::reference::{Judged, when};
+use trying::refusals::same;
+use trying::{draw, reference};
 use vectors::{Steps, Vector};
 
-// Whether p divides r·line + left - right, where `right` is below p.
-fn in_lattice(period: u32, remainder: u32, line: u32, left: u32, right: u32) -> bool {
-    let p = period as u64;
-    let ahead = numbers::add(numbers::product(remainder, line), left as u64);
-    numbers::rest(ahead, p) == right as u64
+// What the vectors call is asked.
+#[derive(Clone, Copy)]
+pub struct Asked {
+    pub period: u32,
+    pub remainder: u32,
+    pub window: u32,
 }
 
-// 01's conditions of a pair (-a, β), (c, δ): a and c are below I and together at least I, β and δ are above 0, both vectors
-// lie in the lattice, and β·c + a·δ = p.
-fn pair_holds(period: u32, remainder: u32, window: u32, a: u32, b: u32, c: u32, d: u32) -> bool {
-    let area = numbers::add(numbers::product(b, c), numbers::product(a, d));
-    a < window
-        && c < window
-        && window <= numbers::add32(a, c)
-        && 0 < b
-        && 0 < d
-        && in_lattice(period, remainder, b, a, 0)
-        && in_lattice(period, remainder, d, 0, c)
-        && area == period as u64
-}
-
-// Whether two vectors are the pair of 01: the first leads to the left or straight on, the second to the right or straight on.
-fn is_pair(period: u32, remainder: u32, window: u32, left: Vector, right: Vector) -> bool {
-    let a = size(left.offset);
-    let c = size(right.offset);
-    let p = period as u64;
-    if 0 < left.offset || right.offset < 0 || p <= a || p <= c || p < left.line || p < right.line {
-        return false;
+impl Asked {
+    // The refusals of the call, in 01's order.
+    fn judge(self) -> Judged {
+        reference::judge_window(self.window)?;
+        reference::judge_period(self.period)?;
+        when(self.period <= self.remainder, 5)?;
+        when(self.period < self.window, 6)
     }
-    pair_holds(
-        period,
-        remainder,
-        window,
-        numbers::low32(a),
-        numbers::low32(left.line),
-        numbers::low32(c),
-        numbers::low32(right.line),
-    )
-}
 
-// Whether a vector is (0, p/g), g being the greatest common divisor of r and p, and at least I. That it is the greatest is seen
-// from what is left of r and p: 1 alone divides both.
-fn is_single(period: u32, remainder: u32, window: u32, only: Vector) -> bool {
-    let p = period as u64;
-    let g = numbers::quotient(p, only.line);
-    only.offset == 0
-        && 0 < only.line
-        && numbers::rest(p, only.line) == 0
-        && numbers::rest(remainder as u64, g) == 0
-        && window as u64 <= g
-        && reference::greatest_common_divisor(
-            numbers::low32(numbers::quotient(remainder as u64, g)),
-            numbers::low32(only.line),
-        ) == 1
-}
+    // Whether p divides r·line + left - right, where `right` is below p.
+    fn in_lattice(self, line: u64, left: u64, right: u64) -> bool {
+        let ahead = u64::from(self.remainder)
+            .wrapping_mul(line)
+            .wrapping_add(left);
+        ahead.checked_rem(u64::from(self.period)) == Some(right)
+    }
 
-// The refusals of the vectors call, in 01's order.
-fn judge(period: u32, remainder: u32, window: u32) -> Refusal {
-    let later = first_of(when(period <= remainder, 5), when(period < window, 6));
-    first_of(
-        reference::judge_window(window),
-        first_of(reference::judge_period(period), later),
-    )
-}
+    // 01's conditions of a pair (-a, β), (c, δ): a and c are below I and together at least I, β and δ are above 0, both vectors
+    // lie in the lattice, and β·c + a·δ = p. The first leads to the left or straight on, the second to the right or straight on. That
+    // no number is above p, which has 31 bits, makes the sums and products what they are in the integers.
+    fn is_pair(self, left: Vector, right: Vector) -> bool {
+        let p = u64::from(self.period);
+        let window = u64::from(self.window);
+        let a = left.offset.unsigned_abs();
+        let b = left.line;
+        let c = right.offset.unsigned_abs();
+        let d = right.line;
+        left.offset <= 0
+            && 0 <= right.offset
+            && a < window.min(p)
+            && c < window.min(p)
+            && window <= a.wrapping_add(c)
+            && 0 < b
+            && b <= p
+            && 0 < d
+            && d <= p
+            && self.in_lattice(b, a, 0)
+            && self.in_lattice(d, 0, c)
+            && b.wrapping_mul(c).wrapping_add(a.wrapping_mul(d)) == p
+    }
 
-// Whether the step vectors are as 01 says. A pair that meets its conditions is the only one, and there is none where the common
-// divisor is at least the window.
-pub fn compare(period: u32, remainder: u32, window: u32) -> bool {
-    let refusal = judge(period, remainder, window);
-    let fine = refusal.number == 0;
-    match vectors::step_vectors(period, remainder, window) {
-        Steps::Pair(left, right) => fine && is_pair(period, remainder, window, left, right),
-        Steps::Single(only) => fine && is_single(period, remainder, window, only),
-        Steps::Refused(reason, place) => refusals::same(reason, place, refusal),
+    // Whether a vector is (0, p/g), g being the greatest common divisor of r and p, and at least I. That it is the greatest is seen
+    // from what is left of r and p: 1 alone divides both.
+    fn is_single(self, only: Vector) -> bool {
+        let p = u64::from(self.period);
+        let r = u64::from(self.remainder);
+        let g = p.checked_div(only.line).unwrap_or(0);
+        let left = r.checked_div(g).unwrap_or(0);
+        only.offset == 0
+            && 0 < only.line
+            && p.is_multiple_of(only.line)
+            && r.is_multiple_of(g)
+            && u64::from(self.window) <= g
+            && reference::greatest_common_divisor(low32(left), low32(only.line)) == 1
+    }
+
+    // Whether the step vectors are as 01 says, or refused so. A pair that meets its conditions is the only one, and there is none where the
+    // common divisor is at least the window.
+    pub fn says(self, judged: Judged) -> bool {
+        match (self.reply(), judged) {
+            (Steps::Pair(left, right), Ok(())) => self.is_pair(left, right),
+            (Steps::Single(only), Ok(())) => self.is_single(only),
+            (Steps::Refused(reason, place), Err(refusal)) => same(
+                Refusal { reason, place },
+                refusal,
+            ),
+            _ => false,
+        }
+    }
+
+    // The reply of the call.
+    fn reply(self) -> Steps {
+        vectors::step_vectors(self.period, self.remainder, self.window)
     }
 }
 
-// The same of a random case, with a fault here and there.
-pub fn vectors_agree(case: Case, state: u64) -> bool {
-    let b = numbers::next(state);
-    let window = draw::maybe(case.run.window, state, 8);
-    let period = draw::maybe(case.source.period, b, 8);
-    let remainder = numbers::rest(case.run.interval as u64, period as u64);
-    compare(
+// Whether the step vectors of a random case, with a fault here and there, are as 01 says.
+pub fn vectors_agree(case: Case) -> bool {
+    let Case { run, source, state } = case;
+    let b = state.next();
+    let period = draw::maybe(source.period, b, 8);
+    let remainder = run.interval.checked_rem(period).unwrap_or(0);
+    let asked = Asked {
         period,
-        draw::maybe(numbers::low32(remainder), numbers::next(b), 8),
-        window,
-    )
+        remainder: draw::maybe(remainder, b.next(), 8),
+        window: draw::maybe(run.window, state, 8),
+    };
+    asked.says(asked.judge())
 }

@@ -1,39 +1,19 @@
 // A block's cells as the run's, by the library's own shift: the block is a run too, and a block of itself, whose cells are not moved.
-use scope::{Run, RunCell, Verdict};
+use scope::{Run, RunCell};
 
-// The number of no cell: something was wrong.
-pub const WRONG: u64 = 18446744073709551615;
-
-// The block that is a run's lines from one on.
-pub fn block_of(run: Run, first: u32) -> Run {
-    Run {
-        window: run.window,
-        interval: run.interval,
-        first,
-        last: run.last,
-    }
-}
-
-// The run's number of a cell that a call with such a block as its run has named. If there is no such cell, the number of none.
-pub fn in_run(run: Run, first: u32, cell: RunCell) -> RunCell {
-    let block = Run {
-        window: run.window,
-        interval: run.interval,
-        first,
-        last: run.last,
+// The run's cell for one that a call with a block as its run has named, the block being the run's lines from one on; nothing, if
+// there is no such cell.
+pub fn in_run(run: Run, first: u32, cell: RunCell) -> Option<RunCell> {
+    let block = Run { first, ..run };
+    let (Ok(()), Ok(())) = (scope::judge_run(run), scope::judge_run(block)) else {
+        return None;
     };
-    if let Verdict::Refused(_, _) = scope::judge_run(run) {
-        return RunCell(WRONG);
-    }
-    if let Verdict::Refused(_, _) = scope::judge_run(block) {
-        return RunCell(WRONG);
-    }
     if first < run.first {
-        return RunCell(WRONG);
+        return None;
     }
     let all = scope::cells(block);
     if all < cell.0 {
-        return RunCell(WRONG);
+        return None;
     }
-    cell.in_block(block, block).in_run(run, block)
+    Some(cell.in_block(block, block).in_run(run, block))
 }

@@ -1,11 +1,13 @@
 // The blanking call over 01's map, which the plain map call makes, with what 02 has it answer; and at the ends of the ranges: the first and
 // the last line there is, one line, the widest window, the ends of 64 bits.
+use crate::comparing;
 use crate::comparing::NO_LINE;
+use crate::ledger::{Ends, Example};
 use crate::stretches::Asked;
-use crate::{comparing, kinds};
 use scope::Run;
+use trying::numbers;
 use trying::reference::{Refusal, alone};
-use trying::{numbers, tally};
+use trying::tally::Tally;
 
 // A run with a window of 4.
 fn run_of(first: u32, last: u32) -> Run {
@@ -20,7 +22,7 @@ fn run_of(first: u32, last: u32) -> Run {
 // 01's map: window 4, interval 10, lines 1 to 5, sources 7 60 and 3 200.
 fn example_map() -> [u8; 20] {
     let mut map = [0u8; 20];
-    map::make_map(run_of(1, 5), &[7, 3], &[60, 200], &[0, 0], &mut map);
+    let _ = map::make_map(run_of(1, 5), &[7, 3], &[60, 200], &[0, 0], &mut map);
     map
 }
 
@@ -34,187 +36,153 @@ fn ask(threshold: u8, lowest: i64, highest: i64) -> Asked {
     }
 }
 
-// Whether the call is refused so, or for no refusal answers with so many stretches, and makes of a room of so many numbers, up to 6, what
-// is expected.
-fn says(
-    refusal: Refusal,
-    count: usize,
-    asked: Asked,
-    map: &[u8],
-    size: usize,
-    expected: [u32; 6],
-) -> bool {
-    let mut room = [NO_LINE; 6];
-    if 6 < size {
-        return false;
+impl Asked {
+    // Whether the call answers with so many stretches, or is refused so, and makes of a room of so many numbers, up to 6, what is expected.
+    fn says(
+        self,
+        reply: Result<usize, Refusal>,
+        map: &[u8],
+        size: usize,
+        expected: [u32; 6],
+    ) -> bool {
+        let mut room = [NO_LINE; 6];
+        let (Some(room), Some(expected)) = (room.get_mut(..size), expected.get(..size)) else {
+            return false;
+        };
+        comparing::replies(reply, self, map, room, expected)
     }
-    comparing::replies(
-        refusal,
-        count,
-        asked,
-        map,
-        &mut room[0..size],
-        &expected[0..size],
-    )
-}
 
-// Whether the call is refused with this number and leaves a room of so many numbers.
-fn refused(number: u8, asked: Asked, map: &[u8], size: usize) -> bool {
-    says(alone(number), 0, asked, map, size, [NO_LINE; 6])
-}
+    // Whether the call is refused with this number and leaves a room of so many numbers.
+    fn refused(self, number: u8, map: &[u8], size: usize) -> bool {
+        self.says(alone(number), map, size, [NO_LINE; 6])
+    }
 
-// Whether the stretches of a map, in a room of so many numbers, are this one alone.
-fn lists_one(asked: Asked, map: &[u8], size: usize, first: u32, last: u32) -> bool {
-    let expected = [first, last, NO_LINE, NO_LINE, NO_LINE, NO_LINE];
-    says(alone(0), 1, asked, map, size, expected)
-}
+    // Whether there is no stretch in a map, which leaves a room of so many numbers.
+    fn lists_none(self, map: &[u8], size: usize) -> bool {
+        self.says(Ok(0), map, size, [NO_LINE; 6])
+    }
 
-// Whether the stretches of a map, in a room of so many numbers, are a line alone and then another stretch.
-fn lists_two(asked: Asked, map: &[u8], size: usize, line: u32, first: u32, last: u32) -> bool {
-    let expected = [line, line, first, last, NO_LINE, NO_LINE];
-    says(alone(0), 2, asked, map, size, expected)
+    // Whether the stretches of a map, in a room of so many numbers, are this one alone.
+    fn lists_one(self, map: &[u8], size: usize, first: u32, last: u32) -> bool {
+        let expected = [first, last, NO_LINE, NO_LINE, NO_LINE, NO_LINE];
+        self.says(Ok(1), map, size, expected)
+    }
+
+    // Whether the stretches of a map, in a room of so many numbers, are a line alone and then another stretch.
+    fn lists_two(self, map: &[u8], size: usize, line: u32, first: u32, last: u32) -> bool {
+        let expected = [line, line, first, last, NO_LINE, NO_LINE];
+        self.says(Ok(2), map, size, expected)
+    }
 }
 
 // Threshold 255, guard -2 to 1: lines 2 and 4, in rooms of 4 numbers and more.
-fn try_rooms(ledger: &mut [u64], map: &[u8]) {
-    let asked = ask(255, -2, 1);
-    let line = kinds::TWO_STRETCHES;
-    tally::count(ledger, line, lists_two(asked, map, 4, 2, 4, 4));
-    tally::count(ledger, line, lists_two(asked, map, 5, 2, 4, 4));
-    tally::count(ledger, line, lists_two(asked, map, 6, 2, 4, 4));
+fn try_rooms(tally: &mut Tally, map: &[u8]) {
+    for size in 4..7 {
+        tally.count(ask(255, -2, 1).lists_two(map, size, 2, 4, 4));
+    }
 }
 
 // The same in rooms of fewer: refused 21.
-fn try_short_rooms(ledger: &mut [u64], map: &[u8]) {
-    let asked = ask(255, -2, 1);
-    let line = kinds::SHORT_ROOMS;
-    tally::count(ledger, line, refused(21, asked, map, 3));
-    tally::count(ledger, line, refused(21, asked, map, 2));
-    tally::count(ledger, line, refused(21, asked, map, 1));
-    tally::count(ledger, line, refused(21, asked, map, 0));
-}
-
-// Guards of one offset. Guard -2 to -2, threshold 200: lines 1 and 4. Guard 1 to 1: a cell of 60 reaches 60, and then lines 4 and 5 are
-// one stretch.
-fn try_offsets(ledger: &mut [u64], map: &[u8]) {
-    let leftmost = lists_two(ask(200, -2, -2), map, 4, 1, 4, 4);
-    let left = lists_two(ask(200, -1, -1), map, 6, 2, 5, 5);
-    let middle = lists_one(ask(200, 0, 0), map, 6, 3, 3);
-    let right = lists_two(ask(60, 1, 1), map, 6, 1, 4, 5);
-    tally::count(ledger, kinds::ONE_OFFSET, leftmost);
-    tally::count(ledger, kinds::OTHER_GUARDS, left);
-    tally::count(ledger, kinds::OTHER_GUARDS, middle);
-    tally::count(ledger, kinds::OTHER_GUARDS, right);
-}
-
-// Other thresholds: a cell of 60 does not reach 61, nor one of 200 201.
-fn try_thresholds(ledger: &mut [u64], map: &[u8]) {
-    let line = kinds::OTHER_GUARDS;
-    tally::count(ledger, line, lists_two(ask(61, 1, 1), map, 6, 1, 4, 4));
-    tally::count(ledger, line, lists_one(ask(200, -2, 1), map, 6, 1, 5));
-    tally::count(ledger, line, lists_two(ask(201, -2, 1), map, 6, 2, 4, 4));
-}
-
-// Threshold 255, guard 0 to 1: no line, which any room holds.
-fn try_no_stretch(ledger: &mut [u64], map: &[u8]) {
-    let asked = ask(255, 0, 1);
-    let line = kinds::NO_STRETCH;
-    let room = [NO_LINE; 6];
-    tally::count(ledger, line, says(alone(0), 0, asked, map, 0, room));
-    tally::count(ledger, line, says(alone(0), 0, asked, map, 6, room));
-}
-
-// An end of a guard: an end of the window of 4, one offset further out, or as far as 64 bits go.
-fn guard_end(k: u32) -> i64 {
-    match k {
-        0 => -9223372036854775808,
-        1 => -3,
-        2 => -2,
-        3 => 1,
-        4 => 2,
-        _ => 9223372036854775807,
+fn try_short_rooms(tally: &mut Tally, map: &[u8]) {
+    for size in 0..4 {
+        tally.count(ask(255, -2, 1).refused(21, map, size));
     }
 }
 
-// Guards from each of these ends to each: outside the window or upside down, and refused 20, are all but -2 to -2, -2 to 1 and 1 to 1.
-fn try_ends(ledger: &mut [u64], map: &[u8]) {
-    let mut k: u32 = 0;
-    while k < 36 {
-        let asked = ask(255, guard_end(k / 6), guard_end(k % 6));
-        let right = k == 14 || k == 15 || k == 21;
-        let wrong = refused(20, asked, map, 6);
-        tally::count(ledger, kinds::GUARD_ENDS, wrong != right);
-        k += 1;
+// Guards of one offset, and other thresholds. Guard 1 to 1: a cell of 60 reaches 60, and then lines 4 and 5 are one stretch; it does not
+// reach 61, nor one of 200 201.
+fn try_guards(tally: &mut Tally, map: &[u8]) {
+    tally.count(ask(200, -1, -1).lists_two(map, 6, 2, 5, 5));
+    tally.count(ask(200, 0, 0).lists_one(map, 6, 3, 3));
+    tally.count(ask(60, 1, 1).lists_two(map, 6, 1, 4, 5));
+    tally.count(ask(61, 1, 1).lists_two(map, 6, 1, 4, 4));
+    tally.count(ask(200, -2, 1).lists_one(map, 6, 1, 5));
+    tally.count(ask(201, -2, 1).lists_two(map, 6, 2, 4, 4));
+}
+
+// Tries what is asked of 01's map. Guard -2 to -2, threshold 200: lines 1 and 4. Threshold 255, guard 0 to 1: no line, which any room
+// holds.
+pub fn try_example(example: &mut Example) {
+    let map = example_map();
+    try_rooms(&mut example.two_stretches, &map);
+    try_short_rooms(&mut example.short_rooms, &map);
+    try_guards(&mut example.other_guards, &map);
+    let leftmost = ask(200, -2, -2).lists_two(&map, 4, 1, 4, 4);
+    example.one_offset.count(leftmost);
+    example.no_stretch.count(ask(255, 0, 1).lists_none(&map, 0));
+    example.no_stretch.count(ask(255, 0, 1).lists_none(&map, 6));
+}
+
+// Ends of guards: those of the window of 4, one offset further out, and as far as 64 bits go.
+const GUARD_ENDS: [i64; 6] = [i64::MIN, -3, -2, 1, 2, i64::MAX];
+
+// Guards from one of these ends to each: outside the window or upside down, and refused 20, are all but -2 to -2, -2 to 1 and 1 to 1.
+fn try_guards_from(tally: &mut Tally, lowest: i64, map: &[u8]) {
+    for highest in GUARD_ENDS {
+        let right = matches!((lowest, highest), (-2, -2) | (-2, 1) | (1, 1));
+        tally.count(ask(255, lowest, highest).refused(20, map, 6) != right);
     }
 }
 
-// A map one cell short: refused 9, and with a threshold of 0 refused 19. The room holds all lines, or none.
-fn try_short_maps(ledger: &mut [u64], map: &[u8]) {
-    let fine = refused(19, ask(0, -2, 1), map, 6);
-    let asked = ask(255, -2, 1);
-    tally::count(ledger, kinds::NO_THRESHOLD, fine);
-    tally::count(ledger, kinds::WRONG_LENGTH, refused(9, asked, map, 6));
-    tally::count(ledger, kinds::WRONG_LENGTH, refused(9, asked, map, 0));
+// Guards from each of these ends.
+fn try_guard_ends(tally: &mut Tally) {
+    let map = example_map();
+    for lowest in GUARD_ENDS {
+        try_guards_from(tally, lowest, &map);
+    }
 }
 
-// Maps that are not of the run's length: one cell short, one too long, or empty.
-fn try_lengths(ledger: &mut [u64]) {
+// Maps that are not of the run's length: one cell short, with room for all lines or for none, one too long, or empty. The first is refused
+// 19 where the threshold is 0.
+fn try_lengths(ends: &mut Ends) {
     let map = [255u8; 21];
     let asked = ask(255, -2, 1);
-    let long = refused(9, asked, &map, 6);
-    let empty = refused(9, asked, &map[0..0], 6);
-    try_short_maps(ledger, &map[0..19]);
-    tally::count(ledger, kinds::WRONG_LENGTH, long);
-    tally::count(ledger, kinds::WRONG_LENGTH, empty);
+    ends.no_threshold
+        .count(ask(0, -2, 1).refused(19, &map[..19], 6));
+    ends.wrong_length.count(asked.refused(9, &map[..19], 6));
+    ends.wrong_length.count(asked.refused(9, &map[..19], 0));
+    ends.wrong_length.count(asked.refused(9, &map, 6));
+    ends.wrong_length.count(asked.refused(9, &[], 6));
 }
 
 // Whether a map of ones is one stretch of all lines of a run of five lines or of one, in a room for just that.
 fn lists_all(first: u32, last: u32, map: &[u8]) -> bool {
     let asked = Asked {
         run: run_of(first, last),
-        threshold: 1,
-        lowest: -2,
-        highest: 1,
+        ..ask(1, -2, 1)
     };
-    lists_one(asked, map, 2, first, last)
+    asked.lists_one(map, 2, first, last)
 }
 
 // Maps of ones.
-fn try_ones(ledger: &mut [u64]) {
+fn try_ones(tally: &mut Tally) {
     let map = [1u8; 20];
-    let line = kinds::ONES;
-    tally::count(ledger, line, lists_all(1, 5, &map));
-    tally::count(ledger, line, lists_all(0, 4, &map));
-    tally::count(ledger, line, lists_all(16777212, 16777216, &map));
-    tally::count(ledger, line, lists_all(0, 0, &map[0..4]));
-    tally::count(ledger, line, lists_all(16777216, 16777216, &map[0..4]));
+    tally.count(lists_all(1, 5, &map));
+    tally.count(lists_all(0, 4, &map));
+    tally.count(lists_all(16777212, 16777216, &map));
+    tally.count(lists_all(0, 0, &map[..4]));
+    tally.count(lists_all(16777216, 16777216, &map[..4]));
 }
 
 // Whether line 7, with a window of 50, is a stretch where the cell at a place is at the threshold and every other just below it.
-fn finds(place: u32) -> bool {
+fn finds(place: usize) -> bool {
     let mut map = [199u8; 50];
     let asked = Asked {
         run: Run {
             window: 50,
-            interval: 10,
-            first: 7,
-            last: 7,
+            ..run_of(7, 7)
         },
-        threshold: 200,
-        lowest: -25,
-        highest: 24,
+        ..ask(200, -25, 24)
     };
-    let none = says(alone(0), 0, asked, &map, 2, [NO_LINE; 6]);
-    numbers::put_byte(&mut map, place as usize, 200);
-    none && lists_one(asked, &map, 2, 7, 7)
+    let none = asked.lists_none(&map, 2);
+    numbers::put(&mut map, place, 200);
+    none && asked.lists_one(&map, 2, 7, 7)
 }
 
 // A cell at the threshold is found at each place of a line, wherever the cells that are looked at together begin and end.
-fn try_places(ledger: &mut [u64]) {
-    let mut place: u32 = 0;
-    while place < 50 {
-        tally::count(ledger, kinds::PLACES, finds(place));
-        place += 1;
+fn try_places(tally: &mut Tally) {
+    for place in 0..50 {
+        tally.count(finds(place));
     }
 }
 
@@ -223,53 +191,28 @@ fn ask_widest(offset: i64) -> Asked {
     Asked {
         run: Run {
             window: 4096,
-            interval: 10,
-            first: 0,
-            last: 1,
+            ..run_of(0, 1)
         },
-        threshold: 1,
-        lowest: offset,
-        highest: offset,
+        ..ask(1, offset, offset)
     }
 }
 
-// Their map: the first cell of line 0 and the last of line 1 are 1.
-fn widest_map() -> [u8; 8192] {
+// Guards at the ends of the widest window, and one offset further out. The first cell of line 0 and the last of line 1 are 1.
+fn try_widest(tally: &mut Tally) {
     let mut map = [0u8; 8192];
     map[0] = 1;
     map[8191] = 1;
-    map
+    tally.count(ask_widest(-2048).lists_one(&map, 2, 0, 0));
+    tally.count(ask_widest(2047).lists_one(&map, 2, 1, 1));
+    tally.count(ask_widest(-2049).refused(20, &map, 2));
+    tally.count(ask_widest(2048).refused(20, &map, 2));
 }
 
-// Guards at the ends of the widest window, and one offset further out.
-fn try_widest(ledger: &mut [u64], map: &[u8]) {
-    let left = lists_one(ask_widest(-2048), map, 2, 0, 0);
-    let right = lists_one(ask_widest(2047), map, 2, 1, 1);
-    let before = refused(20, ask_widest(-2049), map, 2);
-    let after = refused(20, ask_widest(2048), map, 2);
-    tally::count(ledger, kinds::WIDEST, left);
-    tally::count(ledger, kinds::WIDEST, right);
-    tally::count(ledger, kinds::WIDEST, before);
-    tally::count(ledger, kinds::WIDEST, after);
-}
-
-// Tries what is asked of 01's map.
-fn try_example(ledger: &mut [u64], map: &[u8]) {
-    try_rooms(ledger, map);
-    try_short_rooms(ledger, map);
-    try_offsets(ledger, map);
-    try_thresholds(ledger, map);
-    try_no_stretch(ledger, map);
-    try_ends(ledger, map);
-}
-
-// Tries all of these.
-pub fn try_examples(ledger: &mut [u64]) {
-    let map = example_map();
-    let widest = widest_map();
-    try_example(ledger, &map);
-    try_lengths(ledger);
-    try_ones(ledger);
-    try_places(ledger);
-    try_widest(ledger, &widest);
+// Tries the ends of the ranges.
+pub fn try_ends(ends: &mut Ends) {
+    try_guard_ends(&mut ends.guards);
+    try_lengths(ends);
+    try_ones(&mut ends.ones);
+    try_places(&mut ends.places);
+    try_widest(&mut ends.widest);
 }

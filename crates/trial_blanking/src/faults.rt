@@ -1,89 +1,75 @@
 // Every set of the eight faults that a blanking call may have, from none to all at once: it is refused for the first of them in 02's
 // order. A set is a number of 8 bits, one for each fault, the first fault's the lowest.
+use crate::comparing;
 use crate::comparing::NO_LINE;
 use crate::stretches::Asked;
-use crate::{comparing, kinds};
 use scope::Run;
-use trying::reference::{Refusal, first_of, when};
-use trying::tally;
+use trying::reference::{Judged, alone};
+use trying::tally::Tally;
 
-// The refusal that a set of faults is to get: 1, 17, 18, 3, 19, 20, 9, 21.
-fn refusal_of(set: u32) -> Refusal {
-    let window = when(set % 2 == 1, 1);
-    let lines = first_of(when(set / 2 % 2 == 1, 17), when(set / 4 % 2 == 1, 18));
-    let interval = when(set / 8 % 2 == 1, 3);
-    let threshold = when(set / 16 % 2 == 1, 19);
-    let guard = when(set / 32 % 2 == 1, 20);
-    let rooms = first_of(when(set / 64 % 2 == 1, 9), when(set / 128 % 2 == 1, 21));
-    let run = first_of(window, first_of(lines, interval));
-    first_of(run, first_of(threshold, first_of(guard, rooms)))
+// The refusals for the faults, in the order of their bits.
+const NUMBERS: [u8; 8] = [1, 17, 18, 3, 19, 20, 9, 21];
+
+// Whether a fault is in a set.
+fn has(set: u8, fault: u32) -> bool {
+    set.wrapping_shr(fault) % 2 == 1
+}
+
+// The refusal that a set of faults is to get: that of its lowest bit.
+fn judge(set: u8) -> Judged {
+    match NUMBERS.get(set.trailing_zeros() as usize) {
+        Some(number) => alone(*number),
+        None => Ok(()),
+    }
 }
 
 // Lines 1 to 5; or the last before the first, or above its limit, or both.
-fn run_of(set: u32) -> Run {
-    let lines = set / 2 % 4;
-    let first = match lines {
-        0 => 1,
-        1 => 7,
-        2 => 16777213,
-        _ => 16777219,
+fn run_of(set: u8) -> Run {
+    let (first, last) = match (has(set, 1), has(set, 2)) {
+        (false, false) => (1, 5),
+        (true, false) => (7, 6),
+        (false, true) => (16777213, 16777217),
+        (true, true) => (16777219, 16777218),
     };
     Run {
-        window: 4 - set % 2,
-        interval: 1 - set / 8 % 2,
+        window: if has(set, 0) { 3 } else { 4 },
+        interval: if has(set, 3) { 0 } else { 1 },
         first,
-        last: match lines {
-            0 => 5,
-            1 => 6,
-            2 => 16777217,
-            _ => 16777218,
-        },
+        last,
     }
 }
 
 // What is asked of a map of ones: threshold 1 or 0, guard -2 to 1 or to 2.
-fn asked_of(set: u32) -> Asked {
-    let threshold = 1 - set / 16 % 2;
+fn asked_of(set: u8) -> Asked {
     Asked {
         run: run_of(set),
-        threshold: threshold as u8,
+        threshold: if has(set, 4) { 0 } else { 1 },
         lowest: -2,
-        highest: if set / 32 % 2 == 1 { 2 } else { 1 },
+        highest: if has(set, 5) { 2 } else { 1 },
     }
 }
 
-// What is expected in a room of two numbers: lines 1 to 5, or with a refusal what it held before.
-fn room_after(refusal: Refusal) -> [u32; 2] {
-    if refusal.number == 0 {
-        return [1, 5];
-    }
-    [NO_LINE; 2]
-}
-
-// Tries the call with a set of faults: a map of 20 cells, or one short, and a room of two numbers, or one short.
-fn try_set(ledger: &mut [u64], set: u32) {
+// Tries the call with a set of faults: a map of 20 cells, or one short, and a room of two numbers, or one short. With no fault the room
+// then holds lines 1 to 5.
+fn try_set(tally: &mut Tally, set: u8) {
     let map = [1u8; 20];
     let mut room = [NO_LINE; 2];
-    let refusal = refusal_of(set);
-    let expected = room_after(refusal);
-    let cells = 20 - (set / 64 % 2) as usize;
-    let size = 2 - (set / 128 % 2) as usize;
-    let fine = comparing::replies(
-        refusal,
-        1,
+    let judged = judge(set);
+    let expected = if judged.is_ok() { [1, 5] } else { room };
+    let cells = if has(set, 6) { 19 } else { 20 };
+    let size = if has(set, 7) { 1 } else { 2 };
+    tally.count(comparing::replies(
+        judged.map(|()| 1),
         asked_of(set),
-        &map[0..cells],
-        &mut room[0..size],
-        &expected[0..size],
-    );
-    tally::count(ledger, kinds::FAULTS, fine);
+        &map[..cells],
+        &mut room[..size],
+        &expected[..size],
+    ));
 }
 
 // Tries all sets.
-pub fn try_sets(ledger: &mut [u64]) {
-    let mut set: u32 = 0;
-    while set < 256 {
-        try_set(ledger, set);
-        set += 1;
+pub fn try_sets(tally: &mut Tally) {
+    for set in 0..=255u8 {
+        try_set(tally, set);
     }
 }

@@ -7,6 +7,7 @@ pub mod draw;
 pub mod layout;
 pub mod numbers;
 pub mod printing;
+pub mod random;
 pub mod reference;
 pub mod refusals;
 pub mod spelling;

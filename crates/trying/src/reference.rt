@@ -3,205 +3,163 @@
 use crate::numbers;
 use scope::{Run, Source};
 
-// A refusal: its number, or 0 for none, and the place in its list of the source that it concerns, counted from 1, or 0 for none.
-#[derive(Clone, Copy)]
+// A refusal: its number, and the place in its list of the source that it concerns, counted from 1, if it concerns one. It goes by the
+// number of the tables and not by the library's reason, which is held to them.
+#[derive(Clone, Copy, PartialEq, Eq)]
 pub struct Refusal {
     pub number: u8,
-    pub place: u64,
+    pub place: Option<u64>,
+}
+
+// What is to be said of a call: nothing against it, or its refusal.
+pub type Judged = Result<(), Refusal>;
+
+// The lists of a call's sources, as it is lent them: periods, weights, phases. They may be of unequal length, which is a fault.
+// They stay three lists, and a run stays a parameter beside them, since that is how every map call takes them. They have no iterator of
+// their own: std has none over three slices at once.
+#[derive(Clone, Copy)]
+pub struct Lists<'a> {
+    pub periods: &'a [u32],
+    pub weights: &'a [u32],
+    pub phases: &'a [u32],
+}
+
+impl Lists<'_> {
+    // How many there are: as many as periods.
+    pub fn count(self) -> usize {
+        self.periods.len()
+    }
+
+    // The source at a place of the lists, counted from 0.
+    pub fn source(self, k: usize) -> Source {
+        Source {
+            period: numbers::at(self.periods, k),
+            phase: numbers::at(self.phases, k),
+        }
+    }
+
+    // Its weight.
+    pub fn weight(self, k: usize) -> u32 {
+        numbers::at(self.weights, k)
+    }
 }
 
 // Source p with phase s hits cell (i, j) exactly when p divides T·j - i - s: when T·j + I/2 and i + I/2 + s leave the same remainder.
 fn is_hit(run: Run, source: Source, cell: u64) -> bool {
-    let window = run.window as u64;
-    let line = numbers::add32(run.first, numbers::low32(numbers::quotient(cell, window)));
-    let tick = numbers::product(run.interval, line);
-    let p = source.period as u64;
-    let later = numbers::add(numbers::rest(cell, window), source.phase as u64);
-    numbers::rest(numbers::add(tick, window / 2), p) == numbers::rest(later, p)
+    let window = u64::from(run.window);
+    let line = u64::from(run.first).wrapping_add(cell.checked_div(window).unwrap_or(0));
+    let tick = u64::from(run.interval).wrapping_mul(line);
+    let later = cell
+        .checked_rem(window)
+        .unwrap_or(0)
+        .wrapping_add(u64::from(source.phase));
+    let p = u64::from(source.period);
+    tick.wrapping_add(window / 2).checked_rem(p) == later.checked_rem(p)
 }
 
 // How many cells a run has: its window times its lines.
 pub fn cells(run: Run) -> usize {
-    let lines = numbers::add32(numbers::sub32(run.last, run.first), 1);
+    let lines = run.last.wrapping_sub(run.first).wrapping_add(1);
     numbers::product(run.window, lines) as usize
 }
 
-// Whether two runs have the same numbers.
-pub fn same_run(a: Run, b: Run) -> bool {
-    a.window == b.window && a.interval == b.interval && a.first == b.first && a.last == b.last
-}
-
-// The source at a place of the lists, counted from 0.
-pub fn source_at(periods: &[u32], phases: &[u32], k: usize) -> Source {
-    Source {
-        period: numbers::number_at(periods, k),
-        phase: numbers::number_at(phases, k),
-    }
-}
-
 // What the sources that hit a cell weigh together.
-fn weight_at(run: Run, periods: &[u32], weights: &[u32], phases: &[u32], cell: u64) -> u32 {
-    let all = periods.len();
-    let mut sum: u32 = 0;
-    let mut k: usize = 0;
-    while k < all {
-        if is_hit(run, source_at(periods, phases, k), cell) {
-            sum = numbers::add32(sum, numbers::number_at(weights, k));
-        }
-        k += 1;
-    }
-    sum
+fn weight_at(run: Run, sources: Lists<'_>, cell: u64) -> u32 {
+    (0..sources.count())
+        .filter(|k| is_hit(run, sources.source(*k), cell))
+        .fold(0u32, |sum, k| sum.wrapping_add(sources.weight(k)))
 }
 
-// Makes a map what it is to be after all sources are added: a walk over all cells. With one source of weight 1, on zeros, it marks
-// the hits. With a refusal the map stays as it is.
-pub fn expect_added(
-    refusal: Refusal,
-    run: Run,
-    periods: &[u32],
-    weights: &[u32],
-    phases: &[u32],
-    map: &mut [u8],
-) {
-    if refusal.number != 0 {
-        return;
-    }
-    let all = map.len();
-    let mut x: usize = 0;
-    while x < all {
-        let sum = numbers::add32(
-            numbers::byte_at(map, x) as u32,
-            weight_at(run, periods, weights, phases, x as u64),
-        );
-        numbers::put_byte(map, x, numbers::low8(numbers::least(255, sum) as u64));
-        x += 1;
+// Makes a map what it is to be after all sources are added: a walk over all cells.
+pub fn expect_added(run: Run, sources: Lists<'_>, map: &mut [u8]) {
+    for (cell, value) in map.iter_mut().enumerate() {
+        let sum = u32::from(*value).wrapping_add(weight_at(run, sources, cell as u64));
+        *value = sum.min(255) as u8;
     }
 }
 
 // Makes a map what the plain call is to make of it: the same, but from zeros, whatever it held.
-pub fn expect_made(
-    refusal: Refusal,
-    run: Run,
-    periods: &[u32],
-    weights: &[u32],
-    phases: &[u32],
-    map: &mut [u8],
-) {
-    if refusal.number != 0 {
-        return;
-    }
-    numbers::clear(map);
-    expect_added(refusal, run, periods, weights, phases, map);
-}
-
-// Marks the cells that a source hits. The marks are 0 before.
-pub fn mark(run: Run, source: Source, marks: &mut [u8]) {
-    let period = [source.period];
-    let phase = [source.phase];
-    expect_added(alone(0), run, &period, &[1], &phase, marks);
+pub fn expect_made(run: Run, sources: Lists<'_>, map: &mut [u8]) {
+    map.fill(0);
+    expect_added(run, sources, map);
 }
 
 // How many cells of a map are above 0.
-pub fn count_above(map: &[u8]) -> u32 {
-    let all = map.len();
-    let mut count: u32 = 0;
-    let mut x: usize = 0;
-    while x < all {
-        count = numbers::add32(count, (0 < map[x]) as u32);
-        x += 1;
-    }
-    count
+pub fn count_above(map: &[u8]) -> usize {
+    map.iter().filter(|value| **value != 0).count()
 }
 
-// What a listing is to answer: the count written, and the next hit, or the number of cells if there is none.
-#[derive(Clone, Copy)]
+// How many cells of a run a source hits.
+pub fn count_hits(run: Run, source: Source) -> usize {
+    (0..cells(run) as u64)
+        .filter(|cell| is_hit(run, source, *cell))
+        .count()
+}
+
+// The first cell not below a start that a source hits, if there is one.
+pub fn first_hit(run: Run, source: Source, start: u64) -> Option<u64> {
+    (start..cells(run) as u64).find(|cell| is_hit(run, source, *cell))
+}
+
+// What a listing is to answer: the count written, and the next hit, if there is one.
+#[derive(Clone, Copy, PartialEq, Eq)]
 pub struct Listed {
     pub count: usize,
-    pub next: u64,
+    pub next: Option<u64>,
 }
 
-// Puts a cell into a room, if it is marked, after those that are in it. Answers how many there are then.
-fn put_mark(room: &mut [u64], count: usize, mark: u8, cell: u64) -> usize {
-    if mark == 0 {
-        return count;
-    }
-    numbers::put_long(room, count, cell);
-    std::num::wrapping_add_usize(count, 1)
-}
-
-// Makes a room what it is to be after a listing of the marked cells from a start on.
-pub fn expect_listing(marks: &[u8], start: u64, room: &mut [u64]) -> Listed {
-    let all = marks.len();
-    let size = room.len();
+// Makes a room what it is to be after a listing of the cells from a start on that a source hits.
+pub fn expect_listing(run: Run, source: Source, start: u64, room: &mut [u64]) -> Listed {
     let mut count: usize = 0;
-    let mut x = start as usize;
-    while x < all {
-        if marks[x] != 0 && size <= count {
-            return Listed {
-                count,
-                next: x as u64,
-            };
-        }
-        count = put_mark(room, count, marks[x], x as u64);
-        x += 1;
+    let mut next = first_hit(run, source, start);
+    for place in room {
+        let Some(cell) = next else {
+            break;
+        };
+        *place = cell;
+        count = count.wrapping_add(1);
+        next = first_hit(run, source, cell.wrapping_add(1));
     }
-    Listed {
-        count,
-        next: all as u64,
-    }
+    Listed { count, next }
 }
 
-// Whether d, above 0, divides both a and b.
-fn divides_both(d: u32, a: u32, b: u32) -> bool {
-    numbers::rest(a as u64, d as u64) == 0 && numbers::rest(b as u64, d as u64) == 0
-}
-
-// The greatest common divisor of a and b, b above 0, by trying all numbers up to b.
+// The greatest common divisor of a and b, b above 0, by trying all numbers from b down.
 pub fn greatest_common_divisor(a: u32, b: u32) -> u32 {
-    let mut greatest: u32 = 1;
-    let mut d: u32 = 0;
-    while d < b {
-        d += 1;
-        if divides_both(d, a, b) {
-            greatest = d;
-        }
-    }
-    greatest
+    (1..=b)
+        .rev()
+        .find(|d| a.is_multiple_of(*d) && b.is_multiple_of(*d))
+        .unwrap_or(1)
 }
 
 // How long the file of so many cells is: block 0, and a block for each 504 cells that are begun.
 pub fn file_length(cells: usize) -> usize {
-    512 * (1 + (cells % 1099511627776 + 503) / 504)
+    cells.div_ceil(504).wrapping_add(1).wrapping_mul(512)
 }
 
-// A refusal that concerns no source; for 0, none at all.
-pub fn alone(number: u8) -> Refusal {
-    Refusal { number, place: 0 }
+// A refusal that concerns no source.
+pub fn alone<T>(number: u8) -> Result<T, Refusal> {
+    Err(Refusal {
+        number,
+        place: None,
+    })
 }
 
 // A refusal that concerns the source at a place of a list, counted from 1.
-pub fn at_place(number: u8, place: u64) -> Refusal {
-    Refusal { number, place }
+pub fn at_place<T>(number: u8, place: u64) -> Result<T, Refusal> {
+    Err(Refusal {
+        number,
+        place: Some(place),
+    })
 }
 
-// The refusal with a number, if what it is given for is so; else none.
-pub fn when(wrong: bool, number: u8) -> Refusal {
-    if wrong { alone(number) } else { alone(0) }
-}
-
-// The first of two refusals that is one; none if neither is.
-pub fn first_of(a: Refusal, b: Refusal) -> Refusal {
-    if a.number == 0 { b } else { a }
+// The refusal with a number, if what it is given for is so.
+pub fn when(wrong: bool, number: u8) -> Judged {
+    if wrong { alone(number) } else { Ok(()) }
 }
 
 // 1: window odd, below 2 or above 4,096.
-pub fn judge_window(window: u32) -> Refusal {
+pub fn judge_window(window: u32) -> Judged {
     when(window % 2 == 1 || window == 0 || 4096 < window, 1)
-}
-
-// 17 and 18: the last line before the first, the last line above 16,777,216.
-fn judge_lines(first: u32, last: u32) -> Refusal {
-    first_of(when(last < first, 17), when(16777216 < last, 18))
 }
 
 // Whether a run breaks both line limits.
@@ -209,67 +167,50 @@ pub fn breaks_two(run: Run) -> bool {
     16777216 < run.last && run.last < run.first
 }
 
-// 1, 17, 18 and 3: the window, the line limits, the interval.
-pub fn judge_run(run: Run) -> Refusal {
-    let later = first_of(judge_lines(run.first, run.last), when(run.interval == 0, 3));
-    first_of(judge_window(run.window), later)
+// 1: the window; 17 and 18: the last line before the first, the last line above 16,777,216; 3: the interval.
+pub fn judge_run(run: Run) -> Judged {
+    judge_window(run.window)?;
+    when(run.last < run.first, 17)?;
+    when(16777216 < run.last, 18)?;
+    when(run.interval == 0, 3)
 }
 
 // 4: period 0 or above 2,147,483,647.
-pub fn judge_period(period: u32) -> Refusal {
+pub fn judge_period(period: u32) -> Judged {
     when(period == 0 || 2147483647 < period, 4)
 }
 
 // 22: phase not below period.
-fn judge_phase(source: Source) -> Refusal {
+fn judge_phase(source: Source) -> Judged {
     when(source.period <= source.phase, 22)
 }
 
 // 4 before 22: a source with no weight.
-pub fn judge_source(source: Source) -> Refusal {
-    first_of(judge_period(source.period), judge_phase(source))
+pub fn judge_source(source: Source) -> Judged {
+    judge_period(source.period)?;
+    judge_phase(source)
 }
 
 // 4 before 7 before 22: the period, then the weight 0 or above 255, then the phase.
-fn judge_weighted(source: Source, weight: u32) -> Refusal {
-    let heavy = when(weight == 0 || 255 < weight, 7);
-    first_of(
-        judge_period(source.period),
-        first_of(heavy, judge_phase(source)),
-    )
-}
-
-// The same of the source at a place of the lists, counted from 0.
-fn judge_at(periods: &[u32], weights: &[u32], phases: &[u32], k: usize) -> Refusal {
-    judge_weighted(
-        source_at(periods, phases, k),
-        numbers::number_at(weights, k),
-    )
+fn judge_weighted(source: Source, weight: u32) -> Judged {
+    judge_period(source.period)?;
+    when(weight == 0 || 255 < weight, 7)?;
+    judge_phase(source)
 }
 
 // 4 before 7 before 22, source by source, with the place of the source.
-pub fn judge_sources(periods: &[u32], weights: &[u32], phases: &[u32]) -> Refusal {
-    let all = periods.len();
-    let mut k: usize = 0;
-    while k < all {
-        let said = judge_at(periods, weights, phases, k);
-        if said.number != 0 {
+pub fn judge_sources(sources: Lists<'_>) -> Judged {
+    for k in 0..sources.count() {
+        if let Err(said) = judge_weighted(sources.source(k), sources.weight(k)) {
             return at_place(said.number, k as u64 + 1);
         }
-        k += 1;
     }
-    alone(0)
+    Ok(())
 }
 
 // How many sources of a list are at fault.
-pub fn count_at_fault(periods: &[u32], weights: &[u32], phases: &[u32]) -> u32 {
-    let all = periods.len();
-    let mut count: u32 = 0;
-    let mut k: usize = 0;
-    while k < all {
-        let said = judge_at(periods, weights, phases, k);
-        count = numbers::add32(count, (said.number != 0) as u32);
-        k += 1;
-    }
-    count
+pub fn count_at_fault(sources: Lists<'_>) -> usize {
+    (0..sources.count())
+        .filter(|k| judge_weighted(sources.source(*k), sources.weight(*k)).is_err())
+        .count()
 }

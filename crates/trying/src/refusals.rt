@@ -1,8 +1,9 @@
-// The library's refusals, a reason and a place each, compared with the number and the place that are to be given.
+// The library's replies compared with what is to be said: its refusals, a reason and a place each, with the number and the place of the
+// tables.
 use crate::reference::Refusal;
 use scope::{Place, Reason};
 
-// The number of a reason, read off the tables of 01 and 02.
+// The number of a reason, read off the tables of 01 and 02 once more, so that the library's own numbering is held to them.
 fn number_of(reason: Reason) -> u8 {
     match reason {
         Reason::Window => 1,
@@ -28,18 +29,30 @@ fn number_of(reason: Reason) -> u8 {
     }
 }
 
-// Whether a place is this one; for 0, none.
-fn place_is(place: Place, expected: u64) -> bool {
+// The place of the source that a refusal concerns, if it concerns one.
+fn place_of(place: Place) -> Option<u64> {
     match place {
-        Place::Nowhere => expected == 0,
-        Place::AtSource(k) => expected != 0 && k == expected,
+        Place::Nowhere => None,
+        Place::AtSource(k) => Some(k),
     }
 }
 
-// Whether a reason and a place are those of a refusal. The library's own numbering is held to the tables too.
-pub fn same(reason: Reason, place: Place, expected: Refusal) -> bool {
-    let number = number_of(reason);
+// Whether the library's refusal is the one of the tables, by its own numbering too.
+pub fn same(given: scope::Refusal, expected: Refusal) -> bool {
+    let number = number_of(given.reason);
     number == expected.number
-        && scope::number_of(reason) == number
-        && place_is(place, expected.place)
+        && u8::from(given.reason) == number
+        && place_of(given.place) == expected.place
+}
+
+// Whether a reply of the library is as it is to be: refused so, or not refused, and the same answer.
+pub fn agrees<T: PartialEq + Drop>(
+    reply: Result<T, scope::Refusal>,
+    expected: Result<T, Refusal>,
+) -> bool {
+    match (reply, expected) {
+        (Ok(answer), Ok(right)) => answer == right,
+        (Err(given), Err(refusal)) => same(given, refusal),
+        _ => false,
+    }
 }

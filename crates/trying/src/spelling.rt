@@ -1,73 +1,54 @@
 // The text of a run and its sources, as 01 and 02 have it.
-use crate::{numbers, reference};
-use itoa::Buffer;
+use crate::random::State;
+use crate::reference::Lists;
 use scope::{Run, Source};
+use std::io;
+use std::io::{Cursor, Write};
 
-// Puts words at a position of a room, and answers the one after them.
-pub fn put_words(room: &mut [u8], at: usize, words: &[u8]) -> usize {
-    let size = words.len();
-    let start = at % 65536;
-    let mut k: usize = 0;
-    while k < size {
-        numbers::put_byte(room, std::num::wrapping_add_usize(start, k), words[k]);
-        k += 1;
-    }
-    std::num::wrapping_add_usize(start, size)
+// A text that is written: room for the longest there is, and how far it has come.
+pub type Text = Cursor<[u8; 20000]>;
+
+// A text with nothing in it.
+pub fn blank() -> Text {
+    Cursor::new([0; 20000])
 }
 
-// Puts a space and a number.
-pub fn put_number(room: &mut [u8], at: usize, number: u32) -> usize {
-    let mut digits = Buffer::new();
-    let next = put_words(room, at, b" ");
-    put_words(room, next, digits.format(number).as_bytes())
+// What of a text is written.
+pub fn written(text: &Text) -> &[u8] {
+    let room = text.get_ref();
+    room.get(..text.position() as usize).unwrap_or(room)
 }
 
 // Puts the numbers of a run after its word.
-pub fn put_run(room: &mut [u8], run: Run) -> usize {
-    let a = put_words(room, 0, b"run");
-    let b = put_number(room, a, run.window);
-    let c = put_number(room, b, run.interval);
-    let d = put_number(room, c, run.first);
-    put_number(room, d, run.last)
+pub fn put_run(text: &mut Text, run: Run) -> io::Result<()> {
+    let Run {
+        window,
+        interval,
+        first,
+        last,
+    } = run;
+    write!(text, "run {window} {interval} {first} {last}")
 }
 
-// Puts a phase; or nothing, where it is 0 and is to be left out.
-fn put_phase(room: &mut [u8], at: usize, phase: u32, left_out: bool) -> usize {
+// Puts a `src` line, with its phase; or without, where that is 0 and is to be left out.
+fn put_source(text: &mut Text, source: Source, weight: u32, left_out: bool) -> io::Result<()> {
+    let Source { period, phase } = source;
     if phase == 0 && left_out {
-        return at;
+        return writeln!(text, "src {period} {weight}");
     }
-    put_number(room, at, phase)
+    writeln!(text, "src {period} {weight} {phase}")
 }
 
-// Puts a `src` line.
-fn put_source(room: &mut [u8], at: usize, source: Source, weight: u32, left_out: bool) -> usize {
-    let a = put_words(room, at, b"src");
-    let b = put_number(room, a, source.period);
-    let c = put_number(room, b, weight);
-    let d = put_phase(room, c, source.phase, left_out);
-    put_words(room, d, b"\n")
-}
-
-// Puts the text of a run and its sources, and answers its end. A phase of 0 is left out one time in two, as the state has it.
-pub fn put_text(
-    room: &mut [u8],
-    run: Run,
-    periods: &[u32],
-    weights: &[u32],
-    phases: &[u32],
-    state: u64,
-) -> usize {
-    let count = periods.len();
-    let line = put_run(room, run);
-    let mut next = put_words(room, line, b"\n");
-    let mut s = state;
-    let mut k: usize = 0;
-    while k < count {
-        let source = reference::source_at(periods, phases, k);
-        let weight = numbers::number_at(weights, k);
-        next = put_source(room, next, source, weight, s >> 20 & 1 == 0);
-        s = numbers::next(s);
-        k += 1;
+// The text of a run and its sources. A phase of 0 is left out one time in two, as the state has it.
+pub fn text_of(run: Run, sources: Lists<'_>, state: State) -> io::Result<Text> {
+    let mut text = blank();
+    let mut state = state;
+    put_run(&mut text, run)?;
+    writeln!(text, "")?;
+    for k in 0..sources.count() {
+        let left_out = state.past(20).0 % 2 == 0;
+        put_source(&mut text, sources.source(k), sources.weight(k), left_out)?;
+        state = state.next();
     }
-    next
+    Ok(text)
 }

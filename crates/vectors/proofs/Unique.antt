@@ -12,7 +12,8 @@ use Rattle.lattice.proofs.Unique as Lattice
 use borrow.Author.Tests.{leb-false, ltb-false}
 use Rattle.scope.proofs.Judged.{Passes, same_refusal}
 use Rattle.scope.proofs.Limits.{passes_when, passes_first, passes_then, valid_window}
-use Rattle.scope.specs.Refusal.{Complaint, complaint}
+use Rattle.scope.specs.declared.Refusal.{Refusal}
+use Rattle.scope.specs.Refusal.{complaint}
 use Rattle.scope.specs.Reply.{Said, refused, answered}
 use Rattle.vectors.specs.declared.Vector.{Vector}
 use Rattle.vectors.specs.declared.Steps.{Steps}
@@ -66,7 +67,7 @@ never_both h s =
     omega arith
 
 -- one answer alone fits a complaint, or none
-pub said_unique : (o : Option Complaint) (p r I : ℕ) (a b : Said Values) → Admits o p r I a → Admits o p r I b → a ≡ b
+pub said_unique : (o : Option Refusal) (p r I : ℕ) (a b : Said Values) → Admits o p r I a → Admits o p r I b → a ≡ b
 said_unique (some c) p r I a b h h' = h ∙ sym h'
 said_unique none p r I (answered (pair α β γ δ)) (answered (pair α' β' γ' δ')) h h' =
     let e = pair_unique h h' in
@@ -108,7 +109,7 @@ pub vectors_exists : (p r I : ℕ) → (steps : Steps) × VectorsPromise p r I s
 unfolding VectorsPromise vectors_tests
 vectors_exists p r I = go (complaint (vectors_tests p r I)) refl
   where
-    go : (o : Option Complaint) → complaint (vectors_tests p r I) ≡ o → (steps : Steps) × Admits o p r I (says_vectors steps)
+    go : (o : Option Refusal) → complaint (vectors_tests p r I) ≡ o → (steps : Steps) × Admits o p r I (says_vectors steps)
     go (some c) e = (reply.Refused c.reason c.place, refl)
     go none e =
         let passed : Passes (vectors_tests p r I) = record { is = e } in

@@ -1,7 +1,8 @@
 -- Document 01: what the vectors call replies, for every period, remainder and window.
 use Rattle.std.specs.Prelude.{ℕ, ◌≡◌, ltb, leb}
 use Rattle.std.proofs.Math.Option.{Option, some, none}
-use Rattle.scope.specs.Refusal.{Complaint, Tests, ◌when◌, ◌and_then◌, complaint, number, window_tests, period_tests}
+use Rattle.scope.specs.declared.Refusal.{Refusal}
+use Rattle.scope.specs.Refusal.{Tests, ◌when◌, ◌and_then◌, complaint, number, window_tests, period_tests}
 use Rattle.scope.specs.declared.Reason.TheVariants.{Remainder, WiderThanPeriod}
 use Rattle.scope.specs.Reply.{Said, refused, answered}
 use Rattle.vectors.specs.declared.Steps.{Steps}
@@ -23,7 +24,7 @@ says_vectors (Single only) = answered (single only.offset only.line)
 says_vectors (Refused reason place) = refused (number reason) place
 
 -- "three kinds of reply": with a complaint the refusal, its number and its place, with none the pair or the single vector.
-abbrev pub Admits : Option Complaint → ℕ → ℕ → ℕ → Said Values → Type 0
+abbrev pub Admits : Option Refusal → ℕ → ℕ → ℕ → Said Values → Type 0
 Admits (some c) p r I said = said ≡ refused (number c.reason) c.place
 Admits none p r I (answered (pair α β γ δ)) = IsPair p r I (vector α β) (vector γ δ)
 Admits none p r I (answered (single i j)) = IsSingle p r I (vector i j)

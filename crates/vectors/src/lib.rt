@@ -3,12 +3,15 @@
 #![tactic(auto)]
 
 ghost use Rattle.std.specs.Prelude.{◌≡◌, ◌<◌, ◌^◌};
-ghost use Rattle.vectors.specs.Vectors.{vector};
-ghost use Rattle.vectors.specs.Promise.{VectorsPromise};
+ghost use Rattle.scope.specs.Refusal.{complaint};
+ghost use Rattle.scope.specs.Inner.{verdict};
+ghost use Rattle.vectors.specs.Promise.{vectors_tests, VectorsPromise};
 ghost use Rattle.vectors.specs.Inner.{ValidSpan, Spans, turn, first_two, alongside, Reaches, plus_times, next_of, partner_of, Ready, Divided, Open};
 
-use scope::{Place, Reason, Verdict, judge_period, judge_window};
+use scope::{Place, Reason, Refusal, judge_period, judge_window};
 use signed::size;
+
+// Numbers are widened by `as` here and in the crates of the walk: `u64::from` was tried, and its value is a name to the goals, not a number.
 
 // A vector of the lattice: so many ticks of offset, to the right or (below 0) to the left, and so many lines on.
 #[derive(Clone, Copy)]
@@ -26,7 +29,7 @@ pub enum Basis {
     One(Vector),
 }
 
-// The reply of the vectors call.
+// The reply of the vectors call. No Result: document 01 names an enum of these three kinds.
 #[derive(Clone, Copy)]
 pub enum Steps {
     // (α, β) and (γ, δ) of 002's first proposition.
@@ -52,105 +55,72 @@ fn to_side_of(x: i64, n: u64) -> i64
     if x < 0 { -(n as i64) } else { n as i64 }
 }
 
-// `before` plus `last` so many times, where so often `last` leads no further than `before`, to the other side:
-// the offset is what is left of that of `before`, to its side.
-fn plus_times(before: Vector, times: u64, last: Vector) -> Vector
-    requires { Reaches before times last }
-    ensures { result ≡ plus_times before times last }
-{
-    let rest = size(before.offset) - times * size(last.offset);
-    Vector {
-        offset: to_side_of(before.offset, rest),
-        line: before.line + times * last.line,
+impl Vector {
+    // This vector plus `last` so many times, where so often `last` leads no further than this one, to the other side:
+    // the offset is what is left of this one's, to its side.
+    fn plus(self, times: u64, last: Vector) -> Vector
+        requires { Reaches self times last }
+        ensures { result ≡ plus_times self times last }
+    {
+        let rest = size(self.offset) - times * size(last.offset);
+        Vector {
+            offset: to_side_of(self.offset, rest),
+            line: self.line + times * last.line,
+        }
     }
 }
 
-// Inner step. The first two vectors of the division sequence: (-p, 0) and (r, 1).
-pub fn first_two(period: u32, remainder: u32) -> Turn
-    ensures { result ≡ first_two period remainder }
-{
-    Turn {
-        before: Vector {
-            offset: -(period as i64),
-            line: 0,
-        },
-        last: Vector {
-            offset: remainder as i64,
-            line: 1,
-        },
+impl Turn {
+    // Inner step. The first two vectors of the division sequence: (-p, 0) and (r, 1).
+    pub fn first(period: u32, remainder: u32) -> Turn
+        ensures { result ≡ first_two period remainder }
+    {
+        Turn {
+            before: Vector {
+                offset: -(period as i64),
+                line: 0,
+            },
+            last: Vector {
+                offset: remainder as i64,
+                line: 1,
+            },
+        }
     }
-}
 
-// Inner step. The vector after `last` in the division sequence:
-// `before` plus `last` as often as the size of its offset goes into that of `before`.
-pub fn next(before: Vector, last: Vector) -> Vector
-    requires { Reaches before 0 last }
-    ensures { result ≡ next_of before last }
-{
-    plus_times(before, size(before.offset) / size(last.offset), last)
-}
-
-// The division sequence, from two successive vectors to the first that stays within the window, which is stored as (k, l),
-// and the one before it, stored as (i, j). The size of the last offset falls at each call, so that the recursion ends,
-// at the latest with 0. The two vectors are put together anew: so the recursion is compiled into a loop over registers.
-fn divide(
-    before: Vector,
-    last: Vector,
-    window: u64,
-    i: &mut i64,
-    j: &mut u64,
-    k: &mut i64,
-    l: &mut u64,
-)
-    requires { Ready window before last }
-    ensures { Divided window before last (turn (vector i.new j.new) (vector k.new l.new)) }
-{
-    let before = Vector {
-        offset: before.offset,
-        line: before.line,
-    };
-    let last = Vector {
-        offset: last.offset,
-        line: last.line,
-    };
-    if size(last.offset) < window {
-        let offset = before.offset; // what is stored as signed has to be a local
-        *i = offset;
-        *j = before.line;
-        let offset = last.offset;
-        *k = offset;
-        *l = last.line;
-        return;
+    // Inner step. The next two: after `last` comes `before` plus `last` as often as the size of its offset goes into that of `before`.
+    pub fn next(self) -> Turn
+        requires { Reaches self.before 0 self.last }
+        ensures { result ≡ turn self.last (next_of self.before self.last) }
+    {
+        let times = size(self.before.offset) / size(self.last.offset);
+        Turn {
+            before: self.last,
+            last: self.before.plus(times, self.last),
+        }
     }
-    divide(last, next(before, last), window, i, j, k, l);
-}
 
-// The first vector of the division sequence from `last` on that stays within the window, and the one before it.
-fn stop(before: Vector, last: Vector, window: u64) -> Turn
-    requires { Ready window before last }
-    ensures { Divided window before last result }
-{
-    let mut i = 0;
-    let mut j = 0;
-    let mut k = 0;
-    let mut l = 0;
-    divide(before, last, window, &mut i, &mut j, &mut k, &mut l);
-    Turn {
-        before: Vector { offset: i, line: j },
-        last: Vector { offset: k, line: l },
+    // The division sequence, from these two vectors to the first that stays within the window and the one before it: a recursion,
+    // as document 01 names it. The size of the last offset falls at each call, so that it ends, at the latest with 0. The vectors are
+    // changed in place: handed back, they would be copied at every return, and the recursion is compiled into a loop over registers.
+    fn divide(&mut self, window: u64)
+        requires { Ready window self.old.before self.old.last }
+        ensures { Divided window self.old.before self.old.last self.new }
+    {
+        if size(self.last.offset) < window {
+            return;
+        }
+        *self = self.next();
+        self.divide(window);
     }
-}
 
-// The vector that makes a pair with the last one: the one before it, plus the last just so often that it comes within the window.
-fn partner(before: Vector, last: Vector, window: u64) -> Vector
-    requires { Open window before last }
-    ensures { result ≡ partner_of before last window }
-{
-    plus_times(
-        before,
-        (size(before.offset) - window) / size(last.offset) + 1,
-        last,
-    )
+    // The vector that makes a pair with the last one: the one before it, plus the last just so often that it comes within the window.
+    fn partner(self, window: u64) -> Vector
+        requires { Open window self.before self.last }
+        ensures { result ≡ partner_of self.before self.last window }
+    {
+        let times = (size(self.before.offset) - window) / size(self.last.offset) + 1;
+        self.before.plus(times, self.last)
+    }
 }
 
 // Inner step. The pair, or the single vector where there is none, of a window no wider than the period.
@@ -160,14 +130,13 @@ pub fn find_basis(period: u32, remainder: u32, window: u32) -> Basis
     requires { ValidSpan period remainder window }
     ensures { Spans period remainder window result }
 {
-    let start = first_two(period, remainder);
-    let turn = stop(start.before, start.last, window as u64);
-    let before = turn.before;
+    let mut turn = Turn::first(period, remainder);
+    turn.divide(window as u64);
     let last = turn.last;
     if last.offset == 0 {
         return Basis::One(last);
     }
-    let other = partner(before, last, window as u64);
+    let other = turn.partner(window as u64);
     if last.offset < 0 {
         Basis::Two(last, other)
     } else {
@@ -175,22 +144,23 @@ pub fn find_basis(period: u32, remainder: u32, window: u32) -> Basis
     }
 }
 
+// What the tests of the vectors call come to: of the window and of the period, then of the remainder, then of the two widths.
+fn judge(period: u32, remainder: u32, window: u32) -> Result<(), Refusal>
+    ensures { result ≡ verdict (complaint (vectors_tests period remainder window)) }
+{
+    judge_window(window)?;
+    judge_period(period)?;
+    Reason::Remainder.when(period <= remainder)?;
+    Reason::WiderThanPeriod.when(period < window)
+}
+
 // Public operation. The step vectors of a period, a remainder below it and a window no wider than it.
 // Refused, in this order: 1 for the window, 4 for the period, 5 for a remainder not below it, 6 for a window wider than it.
 pub fn step_vectors(period: u32, remainder: u32, window: u32) -> Steps
     ensures { VectorsPromise period remainder window result }
 {
-    if let Verdict::Refused(reason, place) = judge_window(window) {
-        return Steps::Refused(reason, place);
-    }
-    if let Verdict::Refused(reason, place) = judge_period(period) {
-        return Steps::Refused(reason, place);
-    }
-    if period <= remainder {
-        return Steps::Refused(Reason::Remainder, Place::Nowhere);
-    }
-    if period < window {
-        return Steps::Refused(Reason::WiderThanPeriod, Place::Nowhere);
+    if let Err(refusal) = judge(period, remainder, window) {
+        return Steps::Refused(refusal.reason, refusal.place);
     }
     match find_basis(period, remainder, window) {
         Basis::Two(left, right) => Steps::Pair(left, right),

@@ -12,7 +12,6 @@ use Rattle.lattice.proofs.Next.{next_left, next_right, next_both, next_single}
 use Rattle.lattice.proofs.Pair.{Pair, extent}
 use Rattle.vectors.specs.declared.Vector.{Vector}
 use Rattle.vectors.specs.Vectors.{IsPair, IsSingle}
-use Rattle.vectors.specs.Inner.{ValidSpan}
 use Rattle.vectors.proofs.Bridge.{magnitudes}
 use Rattle.scope.specs.declared.Run.{Run}
 use Rattle.scope.specs.declared.Source.{Source}
@@ -22,7 +21,7 @@ use Rattle.scope.proofs.Numbering.{line_at, distance_at}
 use Rattle.walk.specs.declared.Walk.{Walk}
 use Rattle.walk.specs.Inner.{Short, GoesBy, Leads, Stands, Begun, Begins, width}
 use Rattle.search.specs.declared.Point.{Point}
-use Rattle.search.specs.declared.Found.TheVariants.{Nothing}
+use Rattle.std.specs.Prelude.{None}
 use Rattle.search.specs.Inner.{PointOf, Enters, Sought}
 use Rattle.search.proofs.Cells.{inside_cells, hit_point, point_hit, point_low, sought_cell, sought_none}
 use Rattle.walk.proofs.Walks.{first_point}
@@ -70,7 +69,7 @@ module _ {run : Run} (v : ValidRun run) {source : Source} (s : ValidSource sourc
   pub begun_at : {to : Point} {offset : ℤ} → Enters source.period (run.interval % source.period) run.window run.last from to → offset ≡ pos to.distance -ℤ pos (run.window / 2) → Begun run source (record { offset = offset; cell = record { 0 = (to.line - run.first) * run.window + to.distance } })
   unfolding offset_of
   begun_at {to} {offset} h is =
-      let first = rw none_before at (sought_cell v s o h) in
+      let first = rw none_before at (sought_cell v s o h).1 in
       let distance : ((to.line - run.first) * run.window + to.distance) % run.window ≡ to.distance = distance_at run (to.line - run.first) h.first.inside in
       let low = point_low v s o in
       record {
@@ -79,19 +78,10 @@ module _ {run : Run} (v : ValidRun run) {source : Source} (s : ValidSource sourc
         none = λ past. absurd (omega (arith, inside_cells (to.line - run.first) v h.first.inside (omega (arith, h.moves, h.inside, line))));
       }
 
-  pub begun_none : {offset : ℤ} → offset ≡ pos 0 → Sought source.period (run.interval % source.period) run.window run.last from Nothing → Begun run source (record { offset = offset; cell = record { 0 = cells_of run } })
+  pub begun_none : {offset : ℤ} → offset ≡ pos 0 → Sought source.period (run.interval % source.period) run.window run.last from None → Begun run source (record { offset = offset; cell = record { 0 = cells_of run } })
   begun_none zero h = record { first = rw none_before at (sought_none v s o h); stands = λ l. absurd (omega arith); none = λ past. zero }
 
 -- ---- the vectors
-
--- a window as wide as the run's or as the period
-pub askable : {run : Run} {source : Source} → ValidRun run → ValidSource source → ValidSpan source.period (run.interval % source.period) (width run source)
-askable {run} {source} v s = record {
-  remainder = mod-lt run.interval s.ticks;
-  some = omega (arith, v.narrow, s.ticks);
-  window = omega arith;
-  small = s.fits;
-}
 
 -- what the walk's numbers are, from the vectors' offsets
 cells_left : (L A : ℕ) {n : ℕ} (z : ℤ) → z ≡ neg_ℤ (pos A) → pos n ≡ pos L +ℤ z → n + A ≡ L

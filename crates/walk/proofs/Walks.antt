@@ -5,15 +5,13 @@ use Prim.Native.Nat.{ℕ, ◌+◌, ◌-◌, ◌*◌, ◌/◌, ◌%◌, ◌^◌, 
 use native.Mathlib.Nat.{mod-lt, mod-le, div-add-mod', mul-le-mul, mul-le-mul_right}
 use native.Mathlib.Omega.{arith}
 use mathlib.Core.Path.{◌≡◌, sym, subst, ap}
-use mathlib.Core.Bool.{true, false, true≢false}
-use lib.Dec.{T}
-use lib.IntN.{ℤ, pos, negsuc, neg_ℤ, ◌+ℤ◌, ◌-ℤ◌}
-use lib.Signed.{◌≤ℤ◌, ◌<ℤ◌, le_z, lt_z, le_z_yes}
-use borrow.Author.Tests.{leb-false}
+use mathlib.Core.Bool.{true, false}
+use lib.IntN.{ℤ, pos, neg_ℤ, ◌+ℤ◌, ◌-ℤ◌}
+use lib.Signed.{◌≤ℤ◌, ◌<ℤ◌, le_z, lt_z}
 use mir.Syntax.{w64}
 use mir.Val.{SFits, to_z, of_z}
 use mir.Facts.{to_z-of_z}
-use Rattle.signed.proofs.Parts.{parts, sum, apart, neg_up, neg_dn, lt_z_true, lt_z_false}
+use Rattle.signed.proofs.Parts.{parts, sum, apart, neg_up, neg_dn, le_z_order, le_z_false, lt_z_true, lt_z_false}
 use Rattle.lattice.proofs.Congruence.{cong_mod, cong_below}
 use Rattle.lattice.proofs.Differences.{on_cong}
 use Rattle.lattice.proofs.First.{Next}
@@ -86,15 +84,6 @@ module _ {run : Run} (v : ValidRun run) {source : Source} (s : ValidSource sourc
 
 -- ---- the steps are small, and so is every sum of the walk
 
-le_z_true : (x y : ℤ) → le_z x y ≡ true → x ≤ℤ y
-le_z_true x y e = le_z_yes (subst T (sym e) tt)
-
-le_z_false : (x y : ℤ) → le_z x y ≡ false → y <ℤ x
-le_z_false (pos a) (pos b) e = let h = leb-false a b e in omega (arith, parts)
-le_z_false (pos a) (negsuc b) e = record { lt = tt }
-le_z_false (negsuc a) (pos b) e = absurd (true≢false e)
-le_z_false (negsuc a) (negsuc b) e = let h = leb-false b a e in omega (arith, parts)
-
 -- d - h, for a distance d
 pub apart_by : (d h : ℕ) → (pos d -ℤ pos h) +ℤ pos h ≡ pos d
 apart_by d h = omega (arith, parts, sum (pos d) (neg_ℤ (pos h)), neg_up (pos h), neg_dn (pos h), sum (pos d -ℤ pos h) (pos h))
@@ -132,19 +121,6 @@ near_fits z l h = omega (arith, parts, apart z, neg_dn (pos 4096), neg_up (pos 4
 
 pub fits_at : {z : ℤ} (d h : ℕ) → z ≡ pos d -ℤ pos h → d ≤ 4096 → h ≤ 4096 → SFits w64 z
 fits_at {z} d h e a b = let n = near d h a b in rw e (near_fits (pos d -ℤ pos h) n.0 n.1)
-
--- two numbers that are small, and their sum, fit
-pub record Sums (x y : ℤ) : Type 0 where
-  pub one : SFits w64 x
-  pub other : SFits w64 y
-  pub both : SFits w64 (x +ℤ y)
-
-pub sums : (x y : ℤ) → (neg_ℤ (pos 4096) ≤ℤ x) × (x ≤ℤ pos 4096) → (neg_ℤ (pos 8192) ≤ℤ y) × (y ≤ℤ pos 8192) → Sums x y
-sums x y h k = record {
-  one = near_fits x h.0 h.1;
-  other = omega (arith, parts, k.0, k.1, apart y, neg_dn (pos 8192), neg_up (pos 8192));
-  both = omega (arith, parts, h.0, h.1, k.0, k.1, sum x y, apart x, apart y, apart (x +ℤ y), neg_dn (pos 4096), neg_up (pos 4096), neg_dn (pos 8192), neg_up (pos 8192));
-}
 
 pub wider : (z : ℤ) → (neg_ℤ (pos 4096) ≤ℤ z) × (z ≤ℤ pos 4096) → (neg_ℤ (pos 8192) ≤ℤ z) × (z ≤ℤ pos 8192)
 wider z h = (omega (arith, parts, h.0, neg_dn (pos 4096), neg_up (pos 4096), neg_dn (pos 8192), neg_up (pos 8192)), omega (arith, parts, h.1))
@@ -231,7 +207,7 @@ module _ {run : Run} (v : ValidRun run) {source : Source} (s : ValidSource sourc
 
   -- the two tests, passed and failed
   low_true : le_z (to_z w64 (of_z w64 walk.low)) (to_z w64 (of_z w64 at.offset)) ≡ true → l.from ≤ at.cell.0 % run.window
-  low_true t = let n = small v s l here in shifted_le walk.low at.offset (run.window / 2) low_is by_distance (le_z_true walk.low at.offset (rw (held walk.low n.low, held at.offset n.offset) at t))
+  low_true t = let n = small v s l here in shifted_le walk.low at.offset (run.window / 2) low_is by_distance ((le_z_order walk.low at.offset).0 (rw (held walk.low n.low, held at.offset n.offset) at t))
 
   low_false : le_z (to_z w64 (of_z w64 walk.low)) (to_z w64 (of_z w64 at.offset)) ≡ false → at.cell.0 % run.window < l.from
   low_false t = let n = small v s l here in shifted_lt at.offset walk.low (run.window / 2) by_distance low_is (le_z_false walk.low at.offset (rw (held walk.low n.low, held at.offset n.offset) at t))

@@ -1,14 +1,20 @@
 -- The laws of lines that stand in a text: what stands there joins what stands after it, and it leaves a text only one way to go on.
 -- A line's first digits, its word and its newline are read one after the other; each law adds one piece in front. Assumes nothing.
-use Prim.Native.Nat.{ℕ, suc, ◌+◌, ◌-◌, ◌≤◌, ◌<◌}
-use native.Mathlib.Nat.{add-zero}
+use Prim.Native.Nat.{ℕ, suc, ◌+◌, ◌-◌, ◌≤◌, ◌<◌, min}
+use native.Mathlib.Decide.{dec_le}
 use native.Mathlib.Omega.{arith}
 use mathlib.Core.Path.{◌≡◌, refl, sym, ap, ◌∙◌, subst}
-use mathlib.Core.Bool.{false}
+use mathlib.Core.Bool.{Bool, true, false, true≢false}
 use mathlib.Core.List.{List, [], ◌∷◌, ◌++◌, append_assoc}
 use native.Mathlib.Numerals.{add-one}
 use lib.ListN.{length, take, drop, get_or, set, length-set, length-append, length-drop, drop_of_length-le}
-use lib.Seq.{drop-append_seam, take-suc, drop-cons, split_at, take_all, set_at}
+use lib.Seq.{drop-append_seam, drop-cons, drop-drop, set_at}
+use Rattle.std.proofs.lemmas.List.{take_rest}
+use lib.Dec.{eqb}
+use Rattle.std.specs.Prelude.{Result, Ok, Err}
+use Rattle.std.specs.List.{starts_with}
+use Rattle.std.proofs.lemmas.Bool.Decides.{Decides-eqb}
+use Rattle.std.proofs.lemmas.Slice.Eq.{starts_is}
 use Rattle.rooms.specs.Lists.{UpTo}
 use Rattle.rooms.proofs.Lists.{up_to_none, up_to_cons}
 use Rattle.decimal.specs.Digits.{largest, digits}
@@ -18,17 +24,12 @@ use Rattle.decimal.proofs.Readings.{stands}
 use Rattle.scope.specs.declared.Reason.{Reason}
 use Rattle.words.specs.Line.{fields, line}
 use Rattle.words.specs.Inner.{Spelled, NoWord, Field, NoField, FieldStored, Line, NoLine, LineAt, WordAt}
-use Rattle.words.specs.declared.Found.{Found}
-use Rattle.words.specs.declared.Found.TheVariants.{Next, Refused}
 
 -- what follows a common front
 behind : (front : List ℕ) {a b : List ℕ} → front ++ a ≡ front ++ b → a ≡ b
 behind front {a} {b} e = sym (drop-append_seam front a) ∙ ap (drop (length front)) e ∙ drop-append_seam front b
 
 module _ {text : List ℕ} {at : ℕ} where
-  pub spelled_none : Spelled text at [] at
-  spelled_none = record { is = refl; ends = sym (add-zero at) }
-
   module _ {bytes : List ℕ} {next : ℕ} (s : Spelled text at bytes next) where
     pub spelled_append : {more : List ℕ} {end : ℕ} → Spelled text next more end → Spelled text at (bytes ++ more) end
     spelled_append {more} t =
@@ -44,47 +45,27 @@ module _ {text : List ℕ} {at : ℕ} where
         let l = simp (length-append, length-drop) at (ap length s.is) in
         omega (arith, s.ends)
 
--- ---- a word, byte after byte
+-- ---- a word
 
--- the first k bytes of the word stand at `at`, up to `next`
-pub record Begun (text : List ℕ) (at : ℕ) (word : List ℕ) (k next : ℕ) : Type 0 where
-  pub within : k ≤ length word
-  pub stands : Spelled text at (take k word) next
+-- the text from `at` on; past its end that is nothing
+pub rest_is : (text : List ℕ) (at from : ℕ) → from ≡ min at (length text) → take (length text - from) (drop from text) ≡ drop at text
+rest_is text at from e =
+    take_rest text from
+    ∙ elim (dec_le at (length text)) [
+      | yes h ↦ let same : from ≡ at = omega arith in rw same
+      | no h ↦ drop_of_length-le text (omega arith) ∙ sym (drop_of_length-le text (omega arith))
+    ]
 
-pub begun_none : (text : List ℕ) (at : ℕ) (word : List ℕ) → Begun text at word 0 at
-begun_none text at word = record { within = omega arith; stands = spelled_none }
+-- whether it begins with the word
+module _ (text : List ℕ) (at : ℕ) (word : List ℕ) {rest : List ℕ} {begins : Bool} (r : rest ≡ drop at text) (e : begins ≡ starts_with eqb rest word) where
+  pub word_stands : begins ≡ true → Spelled text at word (at + length word)
+  word_stands t =
+      let s = (starts_is Decides-eqb (drop at text) word begins (rw r at e)).0 t in
+      record { is = s ∙ ap (λ l. word ++ l) (drop-drop (length word) at text); ends = refl }
 
-module _ {text : List ℕ} {at : ℕ} {word : List ℕ} {k next : ℕ} (b : Begun text at word k next) where
-  -- the next byte is the word's
-  pub byte_more : k < length word → next < length text → get_or text next 0 ≡ get_or word k 0 → Begun text at word (k + 1) (next + 1)
-  byte_more h t e =
-      record {
-        within = omega arith;
-        stands =
-            rw (add-one k, take-suc word k 0 h)
-            (spelled_append b.stands (record { is = rw (add-one next, ← e) (drop-cons text next 0 t); ends = refl }));
-      }
-
-  -- what the text has to have there
-  front : (rest : List ℕ) → k < length word → drop at text ≡ word ++ rest → drop next text ≡ get_or word k 0 ∷ (drop (suc k) word ++ rest)
-  front rest h e = spelled_forced b.stands (e ∙ ap (λ w. w ++ rest) (split_at word k 0 h) ∙ append_assoc (take k word) _ rest)
-
-  -- the text ends there
-  pub ends_there : k < length word → length text ≤ next → NoWord text at word
-  ends_there h t = record { none = λ rest e. let l = ap length (sym (drop_of_length-le text t) ∙ front rest h e) in omega arith }
-
-  -- the next byte is another
-  pub byte_other : k < length word → next < length text → (get_or text next 0 ≡ get_or word k 0 → ⊥) → NoWord text at word
-  byte_other h t other = record { none = λ rest e. other (ap (λ l. get_or l 0 0) (sym (drop-cons text next 0 t) ∙ front rest h e)) }
-
-  pub word_whole : length word ≤ k → Spelled text at word next
-  word_whole h = rw (take_all k word h) at b.stands
-
--- ---- a refusal that is handed on
-
--- an answer that is a refusal is, for the next step, what this refusal is
-pub hand_on : {found : Found} {reason : Reason} → found ≡ Refused reason → (Says Means : Found → Type 0) → Says found → (Says (Refused reason) → Means (Refused reason)) → Means found
-hand_on e Says Means says turn = subst Means (sym e) (turn (subst Says e says))
+  pub word_missing : begins ≡ false → NoWord text at word
+  word_missing f =
+      record { none = λ after p. true≢false (sym ((starts_is Decides-eqb (drop at text) word begins (rw r at e)).1 after p) ∙ f) }
 
 -- ---- a space and a number
 
@@ -244,10 +225,6 @@ pub record Passing (text : List ℕ) (at : ℕ) (word before room : List ℕ) (k
   pub long : length room ≡ length before
   pub stores : room ≡ numbers ++ drop k before
 
-pub passing_none : {text : List ℕ} {at : ℕ} {word : List ℕ} {next : ℕ} → Spelled text at word next → (room : List ℕ) → Passing text at word room room 0 next
-passing_none {next = next} s room =
-    record { start = next; named = s; numbers = []; stand = refl; counted = refl; within = omega arith; long = refl; stores = refl }
-
 module _ {text : List ℕ} {at : ℕ} {word before room : List ℕ} {k next : ℕ} (p : Passing text at word before room k next) where
   pub passing_more : {room' : List ℕ} {end : ℕ} → k < length room → FieldStored text next room k room' end → Passing text at word before room' (k + 1) end
   passing_more h f =
@@ -276,10 +253,10 @@ module _ {text : List ℕ} {at : ℕ} {word before room : List ℕ} {k next : �
       let less : length before - k ≡ suc (length before - (k + 1)) = omega (arith, p.long) in
       refuted (rw less (no_field n (length before - (k + 1))))
 
-  pub passing_ends : length room ≤ k → (reason : Reason) (f : Found) → WordAt text next (10 ∷ []) reason f → LineAt text at word (length before) room reason f
-  passing_ends h reason (Next end) w =
+  pub passing_ends : length room ≤ k → (reason : Reason) (f : Result ℕ Reason) → WordAt text next (10 ∷ []) reason f → LineAt text at word (length before) room reason f
+  passing_ends h reason (Ok end) w =
       let all : room ≡ p.numbers ++ [] = p.stores ∙ ap (λ r. p.numbers ++ r) (drop_of_length-le before {i = k} (omega (arith, p.long))) in
       subst (λ ns. Line text at word ns end) (sym all) (word_joins p.named (numbers_join p.numbers p.start next p.stand (newline w)))
-  passing_ends h reason (Refused given) w =
+  passing_ends h reason (Err given) w =
       let none_left : length before - k ≡ 0 = omega (arith, p.long) in
       (w.0, refuted (rw none_left (no_newline w.1)))

@@ -1,23 +1,19 @@
 -- What stands at `at` in a text is decided piece by piece: a word, a number after a space, the numbers of a line, a line. Assumes nothing.
-use Prim.Native.Nat.{ℕ, zero, suc, ◌+◌, ◌≤◌}
-use native.Mathlib.Decide.{dec_lt, ℕ_discrete}
-use native.Mathlib.Omega.{arith}
+use Prim.Native.Nat.{ℕ, zero, suc}
 use mathlib.Core.Path.{◌≡◌, refl, ap}
+use mathlib.Core.Bool.{Bool, true, false}
 use mathlib.Core.Logic.{◌⊎◌, inl, inr}
 use mathlib.Core.List.{List, [], ◌∷◌}
-use lib.ListN.{length, get_or}
+use lib.ListN.{length, drop}
+use lib.Dec.{eqb}
+use Rattle.std.specs.Prelude.{Option, None, Some}
+use Rattle.std.specs.List.{starts_with}
 use Rattle.decimal.specs.Inner.{Reading}
-use Rattle.decimal.specs.declared.Number.{Number}
-use Rattle.decimal.specs.declared.Number.TheVariants.{Value, Bad}
 use Rattle.decimal.proofs.Readings.{number_exists}
 use Rattle.words.specs.Inner.{Spelled, NoWord, Field, NoField, Line, NoLine}
 use Rattle.words.proofs.Lines.{
-  Begun,
-  begun_none,
-  byte_more,
-  byte_other,
-  ends_there,
-  word_whole,
+  word_stands,
+  word_missing,
   no_space,
   field_stands,
   field_bad,
@@ -48,26 +44,12 @@ pub record LineFound (text : List ℕ) (at : ℕ) (word : List ℕ) (count : ℕ
   pub stands : Line text at word numbers next
 
 module _ (text : List ℕ) where
-  -- the first k bytes of a word stand at `at`, and at most so many are left
-  bytes_on : (at : ℕ) (word : List ℕ) (left k next : ℕ) → length word ≤ k + left → Begun text at word k next
-      → ((end : ℕ) × Spelled text at word end) ⊎ NoWord text at word
-  bytes_on at word zero k next h b = inl (next, word_whole b (omega arith))
-  bytes_on at word (suc left) k next h b =
-      elim (dec_lt k (length word)) [
-        | no whole ↦ inl (next, word_whole b (omega arith))
-        | yes more ↦
-            elim (dec_lt next (length text)) [
-              | no ended ↦ inr (ends_there b more (omega arith))
-              | yes there ↦
-                  elim (ℕ_discrete (get_or text next 0) (get_or word k 0)) [
-                    | yes same ↦ bytes_on at word left (k + 1) (next + 1) (omega arith) (byte_more b more there same)
-                    | no other ↦ inr (byte_other b more there other)
-                  ]
-            ]
-      ]
-
   word_found : (at : ℕ) (word : List ℕ) → ((end : ℕ) × Spelled text at word end) ⊎ NoWord text at word
-  word_found at word = bytes_on at word (length word) 0 at (omega arith) (begun_none text at word)
+  word_found at word = by_test (starts_with eqb (drop at text) word) refl
+    where
+      by_test : (begins : Bool) → begins ≡ starts_with eqb (drop at text) word → ((end : ℕ) × Spelled text at word end) ⊎ NoWord text at word
+      by_test true e = inl (_, word_stands text at word refl e refl)
+      by_test false e = inr (word_missing text at word refl e refl)
 
   field_found : (at : ℕ) → ((v : ℕ) × (next : ℕ) × Field text at v next) ⊎ NoField text at
   field_found at =
@@ -76,9 +58,9 @@ module _ (text : List ℕ) where
         | inr n ↦ inr (no_space n)
       ]
     where
-      number : {start : ℕ} → Spelled text at (32 ∷ []) start → (n : Number) → Reading text start n → ((v : ℕ) × (next : ℕ) × Field text at v next) ⊎ NoField text at
-      number s (Value v next) r = inl (v, next, field_stands s r)
-      number s Bad r = inr (field_bad s r)
+      number : {start : ℕ} → Spelled text at (32 ∷ []) start → (n : Option (ℕ × ℕ)) → Reading text start n → ((v : ℕ) × (next : ℕ) × Field text at v next) ⊎ NoField text at
+      number s (Some (v, next)) r = inl (v, next, field_stands s r)
+      number s None r = inr (field_bad s r)
 
   fields_found : (count at : ℕ) → FieldsFound text at count ⊎ NoFields text at count
   fields_found zero at =

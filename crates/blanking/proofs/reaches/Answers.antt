@@ -1,51 +1,31 @@
--- `blanking::reaches` meets its contract. The loop's invariant: no cell before `at` is at or above the threshold. The measure is what is
--- left of the length. Assumes nothing.
-use native.Mathlib.Omega.{arith}
-use mathlib.Core.Path.{refl}
-use Rattle.blanking.proofs.Guarding.{none_at_first, part_found, part_missed, rest_tells}
+-- `blanking::reaches` meets its contract: the groups, and the cells after them (`proofs/Cells`). Assumes nothing.
+use Rattle.std.proofs.Common.{ℕ, ◌*◌, ◌/◌, max, ◌≡◌, Bool, List, length, drop, MatchBool, rules, tests, sym, ◌∙◌}
+use Rattle.std.specs.List.{reduce}
+use Rattle.std.specs.Simd.{first_chunks}
+use Rattle.std.proofs.lemmas.Iterator.{cases_from_any, YieldsList-from_slice}
+use Rattle.std.proofs.lemmas.Iterator.Consumers.{YieldsList-from_copied, max_from_yields_List}
+use Rattle.std.proofs.lemmas.Iterator.Adapters.{option_map_id}
+use mathlib.Core.Logic.Iff
+use Rattle.blanking.specs.Inner.{Reaches}
+use Rattle.blanking.proofs.Cells.{SomeGroup, NoGroup, groups_reach, rest_reaches, largest_reaches}
 use Rattle.blanking.proofs.reaches.Goals as goal
 
-pub loop-at-init : goal.loop-at-init
-loop-at-init c = (refl, none_at_first _ _)
+-- what `any` says of the groups
+abbrev Told : List ℕ → ℕ → Bool → Type 0
+Told cells t found = let groups = first_chunks 16 (length cells / 16) cells in MatchBool found (SomeGroup t groups) (NoGroup t groups)
 
-pub overflow_sub-end : goal.overflow_sub-end
-overflow_sub-end c = omega arith
+pub returns-then-any : goal.returns-then-any
+returns-then-any c =
+    let cells = c.args.cells.now in
+    let t = c.args.threshold in
+    let told : Told cells t c.any.result = cases_from_any _ _ _ (λ g. Reaches g t) (λ g. Reaches g t → ⊥) c.any.ensures.ran (YieldsList-from_slice _ cc) (λ x q k. search (rules, tests)) (λ x q k. search (rules, tests)) in
+    (groups_reach t 16 (length cells / 16) cells c.any.result told, λ r. c.if-any.true)
 
-pub overflow_add-next : goal.overflow_add-next
-overflow_add-next c = omega arith
-
-pub slice_bounds-largest-count : goal.slice_bounds-largest-count
-slice_bounds-largest-count c = omega arith
-
-pub slice_bounds-largest-start : goal.slice_bounds-largest-start
-slice_bounds-largest-start c = omega arith
-
-pub slice_bounds-largest-end : goal.slice_bounds-largest-end
-slice_bounds-largest-end c = omega arith
-
-pub largest-requires : goal.largest-requires
-largest-requires c = tt
-
-pub returns-then-threshold-largest : goal.returns-then-threshold-largest
-returns-then-threshold-largest c = (λ e. part_found c.requires c.loop-at.invariant.1 (omega arith) (omega arith) c.largest.ensures c.if-threshold-largest.true, λ r. refl)
-
-pub loop-at-smaller : goal.loop-at-smaller
-loop-at-smaller c = omega arith
-
-pub loop-at-preserved : goal.loop-at-preserved
-loop-at-preserved c = (refl, part_missed c.requires c.loop-at.invariant.1 (omega arith) (omega arith) c.largest.ensures c.if-threshold-largest.false)
-
-pub slice_bounds-largest-count-2 : goal.slice_bounds-largest-count-2
-slice_bounds-largest-count-2 c = omega arith
-
-pub slice_bounds-largest-start-2 : goal.slice_bounds-largest-start-2
-slice_bounds-largest-start-2 c = omega arith
-
-pub slice_bounds-largest-end-2 : goal.slice_bounds-largest-end-2
-slice_bounds-largest-end-2 c = omega arith
-
-pub largest-requires-2 : goal.largest-requires-2
-largest-requires-2 c = tt
-
-pub returns : goal.returns
-returns c = rest_tells c.requires c.loop-at.invariant.1 (omega arith) (omega arith) c.largest-2.ensures refl
+pub returns-else-any : goal.returns-else-any
+returns-else-any c =
+    let cells = c.args.cells.now in
+    let t = c.args.threshold in
+    let rest = drop (length cells / 16 * 16) cells in
+    let told : Told cells t c.any.result = cases_from_any _ _ _ (λ g. Reaches g t) (λ g. Reaches g t → ⊥) c.any.ensures.ran (YieldsList-from_slice _ cc) (λ x q k. search (rules, tests)) (λ x q k. search (rules, tests)) in
+    let largest : c.max.result ≡ reduce max rest = sym (option_map_id _) ∙ max_from_yields_List c.copied.result _ c.max.ensures.ran (YieldsList-from_copied (YieldsList-from_slice rest cc)) in
+    Iff.trans (largest_reaches t rest c.max.result c.is_some_and.result largest (search (rules, tests))) (rest_reaches t 16 (length cells / 16) cells c.any.result told c.if-any.false)

@@ -1,35 +1,13 @@
--- `fileblocks::check` meets its contract. The invariant of its loop: `total` is the running total of the rows so far and `sum` the sum of
--- their totals, both small. The measure is how many rows are left. Assumes nothing.
+-- `fileblocks::check` meets its contract: each byte from the last on has a row of its own, until none is left. Assumes nothing.
 use native.Mathlib.Omega.{arith}
 use Rattle.fileblocks.proofs.Columns.{rows_none, rows_more, rows_all}
 use Rattle.fileblocks.proofs.check.Goals as goal
 
-pub loop-row-init : goal.loop-row-init
-loop-row-init c = rows_none _
+pub loop-byte-init : goal.loop-byte-init
+loop-byte-init c = rw (c.into_iter-byte-iterator.ensures.into_iter_gives, c.rev-byte-items.ensures.source, c.iter.ensures.rest) (rows_none c.args.block.now)
 
-pub overflow_add-row : goal.overflow_add-row
-overflow_add-row c = omega arith
-
-pub overflow_sub-row : goal.overflow_sub-row
-overflow_sub-row c = omega arith
-
-pub bounds-block-row : goal.bounds-block-row
-bounds-block-row c = omega arith
-
-pub overflow_add-total : goal.overflow_add-total
-overflow_add-total c = omega arith
-
-pub overflow_add-sum : goal.overflow_add-sum
-overflow_add-sum c = omega arith
-
-pub loop-row-smaller : goal.loop-row-smaller
-loop-row-smaller c = omega arith
-
-pub loop-row-preserved : goal.loop-row-preserved
-loop-row-preserved c = rows_more c.loop-row.invariant (omega arith) (omega arith) c.wide.ensures.0 c.wide.ensures.1
-
-pub overflow_add-result : goal.overflow_add-result
-overflow_add-result c = omega arith
+pub loop-byte-preserved : goal.loop-byte-preserved
+loop-byte-preserved c = rw c.from.ensures (rows_more c.loop-byte.invariant c.in-Some.ensures.steps (omega arith))
 
 pub returns : goal.returns
-returns c = rows_all c.loop-row.invariant (omega arith) (omega arith)
+returns c = rows_all c.loop-byte.invariant c.in-None.ensures.steps.0 c.requires

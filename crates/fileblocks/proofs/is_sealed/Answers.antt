@@ -7,10 +7,11 @@ use Rattle.fileblocks.proofs.is_sealed.Goals as goal
 
 pub returns-then-four_at-number : goal.returns-then-four_at-number
 unfolding sealed_with
-returns-then-four_at-number c = rw (ne_eqb _ _ (λ e. c.if-four_at-number.true (c.four_at.ensures ∙ e)))
+returns-then-four_at-number c =
+    rw (eq-eqb _ _ (sym c.four_at.ensures ∙ c.if-four_at-number.true))
+    (ap₂ eqb c.four_at-then-four_at-number.ensures c.check.ensures)
 
-pub returns : goal.returns
+pub returns-else-four_at-number : goal.returns-else-four_at-number
 unfolding sealed_with
-returns c =
-    rw (eq-eqb _ _ (sym c.four_at.ensures ∙ c.if-four_at-number.false))
-    (ap₂ eqb c.four_at-2.ensures c.check.ensures)
+returns-else-four_at-number c =
+    rw (ne_eqb _ _ c.if-four_at-number.false, ne_eqb _ _ (λ e. c.if-four_at-number.false (c.four_at.ensures ∙ e)))

@@ -1,31 +1,15 @@
--- `fileblocks::zeros_from` meets its contract. The invariant of its loop: the bytes from `from` on are all zero exactly if those from i on are. The measure is what is left of the length.
--- Assumes nothing.
-use mathlib.Core.Path.{refl, sym, ◌∙◌}
-use native.Mathlib.Omega.{arith}
-use Rattle.fileblocks.proofs.Filling.{all_zero_end, all_zero_on, all_zero_off}
+-- `fileblocks::zeros_from` meets its contract: the bytes from `from` on, as far as there are any, are looked at. Assumes nothing.
+use mathlib.Core.Path.{◌≡◌, ap, ◌∙◌}
+use mathlib.Core.Logic.{◌≢◌}
+use borrow.Author.Rules.{rules}
+use borrow.Author.Tests.{tests}
+use Rattle.std.proofs.lemmas.Iterator.{cases_from_all, YieldsList-from_slice}
+use Rattle.fileblocks.specs.FileBlock.{all_zero}
+use Rattle.fileblocks.proofs.Filling.{all_zero_found, rest_from}
 use Rattle.fileblocks.proofs.zeros_from.Goals as goal
 
-pub loop-i-init : goal.loop-i-init
-loop-i-init c = refl
-
-pub bounds-bytes-i : goal.bounds-bytes-i
-bounds-bytes-i c = omega arith
-
-pub returns-then-bytes-i-ne0 : goal.returns-then-bytes-i-ne0
-returns-then-bytes-i-ne0 c =
-    let inv = c.loop-i.invariant in
-    sym (inv ∙ all_zero_off _ _ c.loop-i-test.true c.if-bytes-i-ne0.true)
-
-pub overflow_add-i : goal.overflow_add-i
-overflow_add-i c = omega arith
-
-pub loop-i-smaller : goal.loop-i-smaller
-loop-i-smaller c = omega arith
-
-pub loop-i-preserved : goal.loop-i-preserved
-loop-i-preserved c =
-    let inv = c.loop-i.invariant in
-    inv ∙ all_zero_on _ _ c.loop-i-test.true c.if-bytes-i-ne0.false
-
 pub returns : goal.returns
-returns c = sym (c.loop-i.invariant ∙ all_zero_end _ _ c.loop-i-test.false)
+returns c =
+    let some = cases_from_all _ _ c.all.result (λ byte. byte ≡ 0) (λ byte. byte ≢ 0) c.all.ensures.ran (YieldsList-from_slice _ c.iter.ensures.rest)
+    (λ x q k. search (rules, tests)) (λ x q k. search (rules, tests)) in
+    all_zero_found c.all.result _ some ∙ ap all_zero (rw c.min.ensures (rest_from c.args.from c.args.bytes.now))

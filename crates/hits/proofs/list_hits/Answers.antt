@@ -1,37 +1,40 @@
 -- `hits::list_hits` meets its promise: the tests, and then the listing itself. Assumes nothing.
-use borrow.Author.Tests.{eq-eqb, ne_eqb}
-use native.Mathlib.Omega.{arith}
-use mathlib.Core.Path.{◌∙◌}
-use Rattle.scope.proofs.Judged.{Passes, broken, sound, first, then, both, fine, blamed, refuse_reply, refuse_stored, grant_reply, grant_stored}
-use Rattle.hits.specs.Promise.{first_hit_tests, listing_tests}
-use Rattle.hits.proofs.Lists.{Allowed, allowed}
+use Rattle.std.proofs.Common.{◌≡◌, List, arith, ◌∙◌}
+use Rattle.std.specs.Prelude.{ℕ, Result}
+use Rattle.std.specs.Result.{IsErrAnd}
+use Rattle.std.proofs.lemmas.Result.{err_from_is_err_and}
+use Rattle.scope.specs.declared.Run.{Run}
+use Rattle.scope.specs.declared.Source.{Source}
+use Rattle.scope.specs.declared.RunCell.{RunCell}
+use Rattle.scope.specs.declared.Refusal.{Refusal}
+use Rattle.scope.proofs.Judged.{Fails, first, then, both, fine, blamed, refuse_reply, refuse_stored, grant_reply, grant_stored}
+use Rattle.hits.specs.declared.Listing.{Listing}
+use Rattle.hits.specs.Promise.{listing_tests, ListingPromise}
+use Rattle.hits.proofs.Lists.{allowed}
 use Rattle.hits.proofs.list_hits.Goals as goal
-use Rattle.hits.proofs.list_hits.Goals.{In_default}
 
--- what the verdict tells
-passes : (c : In_default) → let a = c.args in Passes (first_hit_tests a.run a.source a.start)
-passes c = fine c.judge.ensures c.in_default.is
+-- a `?` hands on the refusal of tests that fail
+stopped : {run : Run} {source : Source} {start : RunCell} {room : List ℕ} {v : Result Listing Refusal} {r : Refusal} → Fails (listing_tests run source start room) r.reason r.place → IsErrAnd v (λ s. s ≡ r) → ListingPromise run source start room v room
+stopped {v = v} f e = let p = err_from_is_err_and v e in rw (p.1, p.2) (record { says = refuse_reply _ f; stores = refuse_stored _ _ f })
 
-granted : (c : In_default) → let a = c.args in Allowed a.run a.source a.start
-granted c = allowed (omega (arith, c.well_formed.0)) (passes c)
-
-pub returns-in-Refused : goal.returns-in-Refused
+pub returns-in_err-judge : goal.returns-in_err-judge
 unfolding listing_tests
-returns-in-Refused c =
-    let fails = first (blamed c.judge.ensures c.in-Refused.is) in
-    record { says = refuse_reply _ fails; stores = refuse_stored _ _ fails }
+returns-in_err-judge c = stopped (first (blamed c.judge.ensures c.in_err-judge.was)) c.from_residual.ensures.1
 
-pub returns-then-room-eq0 : goal.returns-then-room-eq0
+pub returns-in_err-when : goal.returns-in_err-when
 unfolding listing_tests
-returns-then-room-eq0 c =
-    let fails = then (passes (goal.at.returns-then-room-eq0 c).In_default) (broken (eq-eqb _ _ c.if-room-eq0.true)) in
-    record { says = refuse_reply _ fails; stores = refuse_stored _ _ fails }
+returns-in_err-when c = stopped (then (fine c.judge.ensures c.in_ok-judge.was) (blamed (rw c.is_empty.ensures at c.when.ensures) c.in_err-when.was)) c.from_residual-in_err-when.ensures.1
+
+pub invariant_of-write_hits : goal.invariant_of-write_hits
+invariant_of-write_hits c =
+    let g = allowed (omega (arith, c.well_formed.0)) (fine c.judge.ensures c.in_ok-judge.was) in
+    record { valid = (g.valid, g.source_valid) }
 
 pub write_hits-requires : goal.write_hits-requires
-write_hits-requires c = let g = granted (goal.at.write_hits-requires c).In_default in (g.valid, g.source_valid, g.inside)
+write_hits-requires c = (allowed (omega (arith, c.well_formed.0)) (fine c.judge.ensures c.in_ok-judge.was)).inside
 
 pub returns : goal.returns
 unfolding listing_tests
 returns c =
-    let p = both (passes (goal.at.returns c).In_default) (sound (ne_eqb _ _ c.if-room-eq0.false)) in
+    let p = both (fine c.judge.ensures c.in_ok-judge.was) (fine (rw c.is_empty.ensures at c.when.ensures) c.in_ok-when.was) in
     record { says = c.write_hits.ensures.says ∙ grant_reply _ p; stores = c.write_hits.ensures.stores ∙ grant_stored _ _ p }

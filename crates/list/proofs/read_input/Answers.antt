@@ -1,26 +1,30 @@
--- `list::read_input` meets its contract: a read brings no more than it was lent room for. Assumes nothing.
-use Rattle.std.proofs.Common.{◌≡◌, length, ℕ, ◌+◌, ◌-◌, ◌≤◌, List, w64, ℤ, arith, Result, Ok, Err}
-use mir.Val.{SFits, to_z, of_z}
-use mir.Facts.{to_z-of_z}
-use borrow.Rule.Slice.PartMut.{mid_of, put_mid, mid_len, same_len_mid}
-use Rattle.std.specs.Counts.{clamp_len}
-use Rattle.std.specs.Io.{ReadsAtMost}
-use Rattle.list.specs.Inner.{answer_of}
+-- `list::read_input` meets its contract: what a read brings comes behind what was read before it. Assumes nothing.
+use Rattle.std.proofs.Common.{◌≡◌, ℕ, ◌+◌, ◌-◌, ◌≤◌, ◌∙◌, List, ◌++◌, length, take, ap, sym, subst, arith, rules, Option}
+use Rattle.std.proofs.Math.Seq.{take-append-add, take-append-le, length-take-le}
+use borrow.Rule.Slice.PartMut.{mid_of, put_mid, same_len_mid, mid_len}
+use Rattle.std.proofs.KnownBytes.{Consumes-trans}
+use Rattle.std.specs.Io.KnownBytes.{Consumes}
+use Rattle.list.proofs.read_input.Invariants.{Front}
 use Rattle.list.proofs.read_input.Goals as goal
 
--- a read brings no more than it was lent room for
-within : {E : Type 0} (got : Result ℕ E) (part : List ℕ) (most : ℕ) → ReadsAtMost got part → clamp_len (answer_of got) most ≤ length part
-unfolding answer_of
-within (Ok n) part most h = omega (arith, h.0)
-within (Err e) part most h = omega arith
+-- the front of a room once more bytes lie behind its first ones
+front : (room part rest : List ℕ) (count more : ℕ) → count ≤ length room → more ≤ length part → take (count + more) (take count room ++ (part ++ rest)) ≡ take count room ++ take more part
+front room part rest count more h m =
+    let long = length-take-le count room h in
+    ap (λ n. take (n + more) (take count room ++ (part ++ rest))) (sym long)
+    ∙ take-append-add (take count room) (part ++ rest) more
+    ∙ ap (λ p. take count room ++ p) (take-append-le more part rest m)
 
--- so that the bytes read lie within the room, once the part of it that was lent is back
-fits : {E : Type 0} (got : Result ℕ E) (room part : List ℕ) (count more : ℕ) (last : ℤ) → count ≤ length room → length part ≡ length (mid_of count (length room - count) room) → ReadsAtMost got part → last ≡ answer_of got → SFits w64 last → more ≡ clamp_len (to_z w64 (of_z w64 last)) (length (put_mid count (length room - count) room part)) → count + more ≤ length (put_mid count (length room - count) room part)
-fits got room part count more last inside kept bound is small counted =
-    let all = length (put_mid count (length room - count) room part) in
-    let plain : more ≡ clamp_len (answer_of got) all = rw (to_z-of_z small, is) at counted in
-    omega (arith, within got part all bound, same_len_mid count (length room - count) room part kept, mid_len count (length room) room (omega arith))
+read_more : {before between after : Option (List ℕ)} (room part : List ℕ) (count more : ℕ) → Front before between count room
+    → length part ≡ length (mid_of count (length room - count) room) → more ≤ length part → Consumes between after (take more part)
+    → Front before after (count + more) (put_mid count (length room - count) room part)
+read_more room part count more f kept m h =
+    let long = same_len_mid count (length room - count) room part kept in
+    let mid = mid_len count (length room) room (omega arith) in
+    record {
+      within = omega (arith, f.within);
+      read = subst (Consumes _ _) (sym (front room part _ count more f.within m)) (Consumes-trans _ _ _ _ _ f.read h);
+    }
 
 pub loop-count-preserved : goal.loop-count-preserved
-loop-count-preserved c =
-    fits c.read.result _ c.read.new.buf _ _ _ c.loop-count.invariant c.read.auto.buf c.read.ensures.bound c.answer_of-last.ensures (record { sfits = c.answer_of-last.type_inv }) c.brought-more.ensures
+loop-count-preserved g c = search (rules, read_more)

@@ -1,14 +1,13 @@
 -- `map::add_all` meets its contract: the periods below 2,048 and those from there on make all of them. Assumes nothing.
-use native.Mathlib.Omega.{arith}
-use native.Mathlib.Nat.{le-div_iff_mul-le}
 use mathlib.Core.Path.{◌≡◌, ap, ◌∙◌}
 use mathlib.Core.List.{List}
 use mathlib.Core.Option.{none}
-use Prim.Native.Nat.{ℕ, ◌/◌, ◌≤◌}
+use Prim.Native.Nat.{ℕ}
 use Rattle.scope.specs.declared.Run.{Run}
 use Rattle.scope.specs.Run.{ceiling}
 use Rattle.scope.specs.Refusal.{complaint}
-use Rattle.sources.specs.Entry.{Entry, list_tests}
+use Rattle.sources.specs.declared.Entry.{Entry}
+use Rattle.sources.specs.Entry.{list_tests}
 use Rattle.map.specs.Promise.{added}
 use Rattle.map.specs.Inner.{chosen}
 use Rattle.map.proofs.Entries.{AllBelow, valid_entries, valid_below, chosen_all, added_chosen}
@@ -24,22 +23,8 @@ module _ (run : Run) (cells : List ℕ) (entries : List Entry) (sound : complain
   in_two : {between after : List ℕ} → between ≡ added ceiling run (chosen 0 2048 entries) cells → after ≡ added ceiling run (chosen 2048 2147483648 entries) between → after ≡ added ceiling run entries cells
   in_two e f = f ∙ ap (added ceiling run (chosen 2048 2147483648 entries)) e ∙ added_chosen ceiling run 2048 2147483648 entries cells below
 
--- a block has a line
-some_lines : {w : ℕ} → 2 ≤ w → w ≤ 4096 → 1 ≤ 65536 / w
-some_lines {w} low high = (le-div_iff_mul-le {k = w} (omega arith)).1 (omega arith)
+pub returns-then-is_some_and : goal.returns-then-is_some_and
+returns-then-is_some_and c = in_two _ _ _ c.requires.sound c.add_blocks.ensures c.add_chosen.ensures
 
-pub add_blocks-requires : goal.add_blocks-requires
-add_blocks-requires c =
-    let p = c.requires in
-    (p, some_lines p.valid.narrow p.valid.wide)
-
-pub add_chosen-requires : goal.add_chosen-requires
-add_chosen-requires c =
-    let p = c.requires in
-    record { valid = p.valid; equal = p.equal; sound = p.sound; whole = c.add_blocks.auto.map ∙ p.whole }
-
-pub returns-then-shortest-lt-SHORT : goal.returns-then-shortest-lt-SHORT
-returns-then-shortest-lt-SHORT c = in_two _ _ _ c.requires.sound c.add_blocks.ensures c.add_chosen.ensures
-
-pub returns : goal.returns
-returns c = at_once _ _ _ c.requires.sound c.add_below.ensures
+pub returns-else-map-gt-LONG : goal.returns-else-map-gt-LONG
+returns-else-map-gt-LONG c = at_once _ _ _ c.requires.sound c.add_below.ensures

@@ -11,8 +11,8 @@ use lib.ListN.{length, take, drop}
 use Rattle.scope.specs.declared.Run.{Run}
 use Rattle.scope.specs.declared.RunCell.{RunCell}
 use Rattle.scope.specs.Run.{ValidRun, ceiling, lines_of, cells_of, shift_of}
-use Rattle.scope.proofs.Numbering.{IsBlock, valid_block, shift_next}
-use Rattle.sources.specs.Entry.{Entry}
+use Rattle.scope.proofs.Numbering.{IsBlock, shift_next}
+use Rattle.sources.specs.declared.Entry.{Entry}
 use Rattle.map.specs.declared.Start.{Start}
 use Rattle.map.specs.Sum.{raised}
 use Rattle.map.specs.Promise.{weight_at, added}
@@ -24,8 +24,8 @@ use Rattle.map.proofs.add_blocks.Goals as goal
 use Rattle.map.proofs.add_blocks.Goals.{After-in_run-to}
 use Rattle.map.proofs.add_blocks.Invariants.{Blocks}
 
-begins : (run : Run) (entries : List Entry) (start : Start) (old : List ℕ) → ValidRun run → Blocks run entries start old old run.first
-begins run entries start old v =
+begins : (run : Run) (sources : List Entry) (start : Start) (old : List ℕ) → ValidRun run → Blocks run sources start old old run.first
+begins run sources start old v =
     let none : run.first - run.first ≡ 0 = omega arith in
     record { from = omega arith; to = omega arith; cells = 0; cells_are = rw none (omega arith); done = starts ceiling _ old 0 }
 
@@ -45,7 +45,7 @@ record Part (run block : Run) (first cells from to : ℕ) : Type 0 where
   from_is : from ≡ 0 + shift_of run block
   to_is : to ≡ cells + shift_of run block
 
-module _ {run : Run} {entries : List Entry} {start : Start} {old map : List ℕ} {first : ℕ} (so_far : Blocks run entries start old map first) (v : ValidRun run) (whole : length old ≡ cells_of run) where
+module _ {run : Run} {sources : List Entry} {start : Start} {old map : List ℕ} {first : ℕ} (so_far : Blocks run sources start old map first) (v : ValidRun run) (whole : length old ≡ cells_of run) where
   part_ends : {block : Run} {cells from to : ℕ} → Part run block first cells from to → to ≤ length map
   part_ends p = let l = so_far.done.as_long in omega (arith, block_room p.is (omega arith))
 
@@ -53,28 +53,28 @@ module _ {run : Run} {entries : List Entry} {start : Start} {old map : List ℕ}
   part_cells {block} {cells} {from} {to} p = mid_len from to map (part_ends p) ∙ omega arith
 
   -- the sources are added to what the block's part of the map starts from
-  next : {block : Run} {cells from to : ℕ} {part : List ℕ} → Part run block first cells from to → part ≡ added ceiling block entries (start_of start (take (to - from) (drop from map))) → Blocks run entries start old (put_mid from (to - from) map part) (block.last + 1)
+  next : {block : Run} {cells from to : ℕ} {part : List ℕ} → Part run block first cells from to → part ≡ added ceiling block sources (start_of start (take (to - from) (drop from map))) → Blocks run sources start old (put_mid from (to - from) map part) (block.last + 1)
   unfolding shift_of added
   next {block} {cells} {from} {to} {part} p put =
       let b = p.is in
       let on : Run = record { window = run.window; interval = run.interval; first = block.last + 1; last = run.last } in
       let here : so_far.cells ≡ from = so_far.cells_are ∙ ap (λ n. (n - run.first) * run.window) (sym p.at) ∙ omega arith in
       let there : (block.last + 1 - run.first) * run.window ≡ shift_of run block + cells_of block = shift_next b on (omega arith) (add-one block.last) in
-      let so : RaisedFrom ceiling (weight_at run entries) (start_of start old) old 0 from map = rw here at so_far.done in
+      let so : RaisedFrom ceiling (weight_at run sources) (start_of start old) old 0 from map = rw here at so_far.done in
       let room = part_ends p in
       let l = so_far.done.as_long in
       let moved : from ≡ shift_of run block = omega arith in
-      let started : part ≡ raised ceiling (weight_at block entries) 0 (take (to - from) (drop from (start_of start old))) = put ∙ ap (raised ceiling (weight_at block entries) 0) (start_part start (to - from) so (omega arith)) in
+      let started : part ≡ raised ceiling (weight_at block sources) 0 (take (to - from) (drop from (start_of start old))) = put ∙ ap (raised ceiling (weight_at block sources) 0) (start_part start (to - from) so (omega arith)) in
       record {
         from = omega arith;
         to = omega arith;
         cells = to;
         cells_are = omega arith;
-        done = patch_from so (weight_at block entries) {k = to - from} (start_length start old) (omega arith) (omega arith) started (λ i h. rw moved (weight_shift v b entries i));
+        done = patch_from so (weight_at block sources) {k = to - from} (start_length start old) (omega arith) (omega arith) started (λ i h. rw moved (weight_shift v b sources i));
       }
 
   -- past the last line
-  all : run.last < first → map ≡ added ceiling run entries (start_of start old)
+  all : run.last < first → map ≡ added ceiling run sources (start_of start old)
   unfolding added cells_of lines_of
   all h =
       let lines : first ≡ suc run.last = omega arith in
@@ -97,52 +97,21 @@ lent c =
 pub loop-first-init : goal.loop-first-init
 loop-first-init c = begins _ _ _ _ c.requires.0.valid
 
-pub block_from-block-requires : goal.block_from-block-requires
-block_from-block-requires c = (c.requires.0.valid, c.loop-first.invariant.from, c.loop-first-test.true, c.requires.1)
-
-pub in_run-from-requires : goal.in_run-from-requires
-in_run-from-requires c =
-    let b = c.block_from-block.ensures in
-    let v = valid_block c.requires.0.valid b.0 (omega arith) in
-    (c.requires.0.valid, b.0, v, omega arith)
-
-pub cells-requires : goal.cells-requires
-cells-requires c = let b = c.block_from-block.ensures in valid_block c.requires.0.valid b.0 (omega arith)
-
-pub in_run-to-requires : goal.in_run-to-requires
-in_run-to-requires c =
-    let b = c.block_from-block.ensures in
-    let v = valid_block c.requires.0.valid b.0 (omega arith) in
-    (c.requires.0.valid, b.0, v, omega (arith, c.cells.ensures))
-
-pub slice_bounds-add_below-count : goal.slice_bounds-add_below-count
-slice_bounds-add_below-count c = let p = lent (goal.at.slice_bounds-add_below-count c).After-in_run-to in omega arith
-
-pub slice_bounds-add_below-start : goal.slice_bounds-add_below-start
-slice_bounds-add_below-start c = let p = lent (goal.at.slice_bounds-add_below-start c).After-in_run-to in omega arith
-
-pub slice_bounds-add_below-end : goal.slice_bounds-add_below-end
-slice_bounds-add_below-end c = part_ends c.loop-first.invariant c.requires.0.valid c.requires.0.whole (lent (goal.at.slice_bounds-add_below-end c).After-in_run-to)
-
-pub add_below-requires : goal.add_below-requires
-add_below-requires c =
-    let p = c.requires in
-    let b = c.block_from-block.ensures in
-    record { valid = valid_block p.0.valid b.0 (omega arith); equal = p.0.equal; sound = p.0.sound; whole = part_cells c.loop-first.invariant p.0.valid p.0.whole (lent (goal.at.add_below-requires c).After-in_run-to) }
-
-pub overflow_add-first : goal.overflow_add-first
-overflow_add-first c = let b = c.block_from-block.ensures in let v = c.requires.0.valid in omega arith
-
-pub loop-first-smaller : goal.loop-first-smaller
-loop-first-smaller c = let b = c.block_from-block.ensures in let v = c.requires.0.valid in let h = c.loop-first-test.true in omega arith
+pub slice_bounds-part-end : goal.slice_bounds-part-end
+slice_bounds-part-end c = part_ends c.loop-first.invariant c.requires.0.valid c.requires.0.whole (lent c)
 
 pub loop-first-preserved : goal.loop-first-preserved
 loop-first-preserved c =
     let p = c.requires in
-    next c.loop-first.invariant p.0.valid p.0.whole (lent (goal.at.loop-first-preserved c).After-in_run-to) c.add_below.ensures
-
-pub shape_of-map : goal.shape_of-map
-shape_of-map c = c.loop-first.invariant.done.as_long
+    let b = c.block_from-block.ensures in
+    let on : c.block_from-block.result.last + 1 ≡ c.loop-first.first + c.args.lines = omega arith in
+    rw on at (next c.loop-first.invariant p.0.valid p.0.whole (lent (goal.at.loop-first-preserved c).After-in_run-to) c.add_below.ensures)
 
 pub returns : goal.returns
-returns c = all c.loop-first.invariant c.requires.0.valid c.requires.0.whole c.loop-first-test.false
+returns c = all c.loop-first.invariant c.requires.0.valid c.requires.0.whole (omega arith)
+
+pub returns-2 : goal.returns-2
+returns-2 c =
+    let p = c.requires in
+    let b = c.block_from-block.ensures in
+    all (next c.loop-first.invariant p.0.valid p.0.whole (lent (goal.at.returns-2 c).After-in_run-to) c.add_below.ensures) p.0.valid p.0.whole (omega arith)

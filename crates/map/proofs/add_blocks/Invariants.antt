@@ -5,21 +5,21 @@ use mathlib.Core.List.{List}
 use Prim.Native.Nat.{ℕ, suc, ◌-◌, ◌*◌, ◌≤◌}
 use Rattle.scope.specs.declared.Run.{Run}
 use Rattle.scope.specs.Run.{ceiling}
-use Rattle.sources.specs.Entry.{Entry, entries_of}
+use Rattle.sources.specs.declared.Entry.{Entry}
 use Rattle.map.specs.declared.Start.{Start}
 use Rattle.map.specs.Promise.{weight_at}
 use Rattle.map.specs.Inner.{RaisedFrom, start_of, chosen}
 use Rattle.map.proofs.add_blocks.Given as goal
 
-pub record Blocks (run : Run) (entries : List Entry) (start : Start) (old map : List ℕ) (first : ℕ) : Type 0 where
+pub record Blocks (run : Run) (sources : List Entry) (start : Start) (old map : List ℕ) (first : ℕ) : Type 0 where
   pub from : run.first ≤ first
   pub to : first ≤ suc run.last
   pub cells : ℕ
   pub cells_are : cells ≡ (first - run.first) * run.window
-  pub done : RaisedFrom ceiling (weight_at run entries) (start_of start old) old 0 cells map
+  pub done : RaisedFrom ceiling (weight_at run sources) (start_of start old) old 0 cells map
 
 abbrev pub invariant-loop-first : goal.invariant-loop-first
-invariant-loop-first l = Blocks l.run (chosen 0 l.high (entries_of l.periods l.weights l.phases)) l.start l.initial.map l.map l.first
+invariant-loop-first l = Blocks l.run (chosen 0 l.high l.sources) l.start l.initial.map l.map l.first
 
 abbrev pub decreases-loop-first : goal.decreases-loop-first
 decreases-loop-first l = suc l.run.last - l.first

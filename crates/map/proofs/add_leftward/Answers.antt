@@ -2,30 +2,21 @@
 -- the walk went left, and `at` is the next one if it lies in the run. The measure is what is left of the map. Assumes nothing.
 use native.Mathlib.Omega.{arith}
 use mathlib.Core.Path.{refl}
-use lib.ListN.{length-set}
+use Prim.Native.Nat.{◌<◌}
+use lib.ListN.{get_or, length-set}
+use Rattle.std.proofs.Common.{rules}
 use Rattle.scope.specs.Run.{ceiling, UpTo}
-use Rattle.map.proofs.Walked.{Leftward, left_starts, walking, rises, left_on, left_turns, left_ends}
+use Rattle.map.proofs.Walked.{Leftward, walking, rises, left_on, left_turns, left_ends}
 use Rattle.map.proofs.add_leftward.Goals as goal
 use Rattle.map.proofs.add_leftward.Goals.{At-loop-cell}
 
 -- no cell is above the ceiling at first
 small : (c : At-loop-cell) → UpTo ceiling c.args.map.now
-small c i = omega (arith, c.slice_known-1.given i)
+small c i = let t : get_or c.args.map.now i 0 < 256 = search rules in omega arith
 
 -- where the walk stands, at the test
 here : (c : At-loop-cell) → Leftward c.requires.run c.requires.source c.args.walk c.args.weight c.args.from c.loop-cell.at c.args.map.now c.loop-cell.map
 here c = c.loop-cell.invariant.2 _ _ c.requires.is (small c)
-
-pub loop-cell-init : goal.loop-cell-init
-loop-cell-init c = (refl, refl, λ run source crosses small. left_starts crosses _)
-
-pub next-requires : goal.next-requires
-next-requires c =
-    let e = c.loop-cell.invariant.0 in
-    walking c.requires.is _ (here (goal.at.next-requires c).At-loop-cell) (omega (arith, c.loop-cell-test.true))
-
-pub shape_of-map-then-at-walk : goal.shape_of-map-then-at-walk
-shape_of-map-then-at-walk c = simp length-set c.loop-cell.invariant.1
 
 pub returns-then-at-walk : goal.returns-then-at-walk
 returns-then-at-walk c run source crosses =
@@ -48,9 +39,6 @@ pub loop-cell-preserved : goal.loop-cell-preserved
 loop-cell-preserved c =
     let i = c.loop-cell.invariant in
     (refl, simp length-set i.1, λ run source crosses low. left_on crosses _ (i.2 run source crosses low) (omega (arith, i.0, c.loop-cell-test.true)) c.next-at.ensures.1 low i.0 c.plus.ensures c.if-at-walk.false)
-
-pub shape_of-map : goal.shape_of-map
-shape_of-map c = c.loop-cell.invariant.1
 
 pub returns : goal.returns
 returns c run source crosses =

@@ -8,17 +8,8 @@ use Rattle.map.proofs.add_line.Goals as goal
 pub loop-d-init : goal.loop-d-init
 loop-d-init c = line_starts _ c.requires.0 (λ i. omega (arith, c.type_inv.line i))
 
-pub overflow_add-d : goal.overflow_add-d
-overflow_add-d c = let l = c.loop-d.invariant.done.as_long in omega arith
-
-pub loop-d-smaller : goal.loop-d-smaller
-loop-d-smaller c = let l = c.loop-d.invariant.done.as_long in let w = c.loop-d.invariant.within in omega arith
-
 pub loop-d-preserved : goal.loop-d-preserved
 loop-d-preserved c = line_next c.loop-d.invariant c.loop-d-test.true c.plus.ensures
-
-pub shape_of-line : goal.shape_of-line
-shape_of-line c = c.loop-d.invariant.done.as_long
 
 pub returns : goal.returns
 returns c = let l = c.loop-d.invariant.done.as_long in ends c.loop-d.invariant.done (omega arith)

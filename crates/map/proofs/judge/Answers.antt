@@ -1,44 +1,31 @@
--- `map::judge` meets its contract: each return is the first of its three groups of tests that fails, or that none does. Assumes nothing.
-use borrow.Author.Tests.{eq-eqb, ne_eqb}
+-- `map::judge` meets its contract: the first of its groups of tests that fails, or the sources. Assumes nothing.
 use native.Mathlib.Omega.{arith}
-use mathlib.Core.Path.{sym, ap, ◌∙◌}
-use mathlib.Core.Bool.{not}
-use Rattle.scope.specs.Run.{ValidRun, ceiling}
-use Rattle.scope.specs.Refusal.{◌and_then◌, run_tests}
-use Rattle.scope.proofs.Judged.{Passes, broken, sound, first, then, both, fine, blamed, refuse_verdict, grant_verdict}
-use Rattle.scope.proofs.Limits.{passes_first, valid_run}
-use Rattle.sources.specs.Entry.{source_lists_tests}
+use Rattle.scope.proofs.Judged.{first, then, both, fine, blamed}
+use Rattle.scope.proofs.Limits.{valid_run}
+use Rattle.sources.proofs.Granted.{withheld, grants, refused_by, granted_by}
 use Rattle.map.specs.Promise.{map_tests}
 use Rattle.map.proofs.judge.Goals as goal
-use Rattle.map.proofs.judge.Goals.{After-judge_lists, In_default-judge_lists}
 
--- the run has passed
-run_passes : (c : After-judge_lists) → Passes (run_tests c.args.run)
-run_passes c = fine c.judge_run.ensures c.in_default.is
-
--- the lists have passed too
-lists_pass : (c : In_default-judge_lists) → let a = c.args in Passes (run_tests a.run and_then source_lists_tests ceiling a.periods.now a.weights.now a.phases.now)
-lists_pass c =
-    both (run_passes (goal.at.In_default-judge_lists c).After-judge_lists) (fine c.judge_lists.ensures c.in_default-judge_lists.is)
-
-run_valid : (c : In_default-judge_lists) → ValidRun c.args.run
-run_valid c = valid_run (passes_first (lists_pass c)) (omega (arith, c.well_formed.0))
-
-pub returns-in-Refused : goal.returns-in-Refused
+pub returns-in_err-judge_run : goal.returns-in_err-judge_run
 unfolding map_tests
-returns-in-Refused c = refuse_verdict (first (first (blamed c.judge_run.ensures c.in-Refused.is)))
+returns-in_err-judge_run c = withheld _ (first (first (blamed c.judge_run.ensures c.in_err-judge_run.was))) c.from_residual.ensures.1
 
-pub returns-in-Refused-judge_lists : goal.returns-in-Refused-judge_lists
+pub returns-in_err-sources : goal.returns-in_err-sources
 unfolding map_tests
-returns-in-Refused-judge_lists c = refuse_verdict (first (then (run_passes (goal.at.returns-in-Refused-judge_lists c).After-judge_lists) (blamed c.judge_lists.ensures c.in-Refused-judge_lists.is)))
+returns-in_err-sources c =
+    withheld _ (first (then (fine c.judge_run.ensures c.in_ok-judge_run.was) (refused_by _ c.judge_lists.ensures c.in_err-sources.was))) c.from_residual-in_err-sources.ensures.1
 
 pub cells-requires : goal.cells-requires
-cells-requires c = run_valid (goal.at.cells-requires c).In_default-judge_lists
+cells-requires c = valid_run (fine c.judge_run.ensures c.in_ok-judge_run.was) (omega (arith, c.well_formed.0))
 
-pub returns-then-map-cells : goal.returns-then-map-cells
+pub returns-in_err-when : goal.returns-in_err-when
 unfolding map_tests
-returns-then-map-cells c = refuse_verdict (then (lists_pass (goal.at.returns-then-map-cells c).In_default-judge_lists) (broken (ap not (ne_eqb _ _ (λ e. c.if-map-cells.true (e ∙ sym c.cells.ensures))))))
+returns-in_err-when c =
+    let lists = granted_by _ c.judge_lists.ensures c.in_ok-sources.was in
+    withheld _ (then (both (fine c.judge_run.ensures c.in_ok-judge_run.was) lists.0) (blamed (rw c.cells.ensures at c.when.ensures) c.in_err-when.was)) c.from_residual-in_err-when.ensures.1
 
 pub returns : goal.returns
 unfolding map_tests
-returns c = grant_verdict (both (lists_pass (goal.at.returns c).In_default-judge_lists) (sound (ap not (eq-eqb _ _ (c.if-map-cells.false ∙ c.cells.ensures)))))
+returns c =
+    let lists = granted_by _ c.judge_lists.ensures c.in_ok-sources.was in
+    grants (both (both (fine c.judge_run.ensures c.in_ok-judge_run.was) lists.0) (fine (rw c.cells.ensures at c.when.ensures) c.in_ok-when.was)) lists.1

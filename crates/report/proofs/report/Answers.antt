@@ -1,24 +1,12 @@
--- `report::report` meets its contract: what the text says is reported, or its refusal. Assumes nothing.
-use Rattle.report.proofs.Outputs.{periods_within, weights_within, phases_within, few_sources, accepts, reports, reports_refusal}
+-- `report::report` meets its contract: what is written on a blank page is the output. Assumes nothing.
+use Rattle.std.proofs.Common.{◌∙◌, rules}
+use Rattle.report.specs.Inner.{Blank}
+use Rattle.report.proofs.Outputs.{page_prints}
 use Rattle.report.proofs.report.Goals as goal
 
-pub slice_bounds-report_run-end : goal.slice_bounds-report_run-end
-slice_bounds-report_run-end c = periods_within c.read_text-input.ensures
-
-pub slice_bounds-report_run-end-in-Read : goal.slice_bounds-report_run-end-in-Read
-slice_bounds-report_run-end-in-Read c = weights_within c.read_text-input.ensures
-
-pub slice_bounds-report_run-end-in-Read-2 : goal.slice_bounds-report_run-end-in-Read-2
-slice_bounds-report_run-end-in-Read-2 c = phases_within c.read_text-input.ensures
-
-pub report_run-requires : goal.report_run-requires
-report_run-requires c =
-    let p = c.read_text-input.ensures in
-    let e = c.in-Read.is in
-    (accepts p e, few_sources p e)
-
-pub returns-in-Read : goal.returns-in-Read
-returns-in-Read c = reports c.read_text-input.ensures c.in-Read.is c.report_run.ensures
-
-pub returns-in-Refused : goal.returns-in-Refused
-returns-in-Refused c = reports_refusal c.read_text-input.ensures c.in-Refused.is c.report_refusal.ensures
+pub returns : goal.returns
+returns c =
+    let page = c.new-page.ensures in
+    let blank : Blank c.new-page.result = record { begins = page.nothing.1; blank = page.nothing.0 ∙ c.blank-bytes.ensures } in
+    let same = c.write_reply.ensures.writes.same_room ∙ page.same_room in
+    page_prints blank c.write_reply.ensures (search rules)

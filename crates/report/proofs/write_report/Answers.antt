@@ -1,61 +1,40 @@
--- `report::write_report` meets its contract: the four parts are the whole. Assumes nothing.
-use Prim.Native.Nat.{◌-◌, ◌≤◌}
-use mathlib.Core.Path.{◌≡◌, refl}
-use mathlib.Core.List.{◌++◌}
-use native.Mathlib.Omega.{arith}
-use lib.ListN.{length}
-use lib.Seq.{length-take-le}
-use Rattle.text.specs.Promise.{most_cells}
-use Rattle.sources.specs.Entry.{entries_of}
+-- `report::write_report` meets its contract: the three parts are the whole. Assumes nothing.
+use Rattle.std.proofs.Common.{◌++◌, refl}
+use Rattle.decimal.proofs.Pages.{OnPage, page_starts, page_fits, page_fits_last, page_more, page_last}
+use Rattle.text.specs.Promise.{sources_in}
 use Rattle.report.specs.Report.{run_report, src_report, cells_report, whole_report}
-use Rattle.rooms.proofs.Writing.{Writing, writing_starts, writing_more, writing_last, piece_fits, last_fits}
-use borrow.Author.Rules.{rules}
 use Rattle.report.proofs.write_report.Goals as goal
-use Rattle.report.proofs.write_report.Goals.{After-shared_slice_known-3-1, After-write_run-after_run, After-write_sources-after_sources}
+use Rattle.report.proofs.write_report.Goals.{Start, After-write_run, After-write_sources}
 
--- what is left to be written before the run's line, and after it, and after those of the sources
-starts : (c : After-shared_slice_known-3-1)
-    → let a = c.args in
-    let es = entries_of a.periods.now a.weights.now a.phases.now in
-    Writing a.room.now 0 (whole_report a.run es) (whole_report a.run es) 0 a.room.now
-starts c = writing_starts _ _ _ c.requires.fits
+-- the whole is to be written; the run's line is written, and after it those of the sources
+starts : (c : Start)
+    → let i = c.args.input.now in
+    OnPage c.args.page.now (whole_report i.run (sources_in i)) (whole_report i.run (sources_in i)) c.args.page.now
+starts c = page_starts _ _ c.requires.fits
 
-run_written : (c : After-write_run-after_run)
-    → let a = c.args in
-    let es = entries_of a.periods.now a.weights.now a.phases.now in
-    Writing a.room.now 0 (whole_report a.run es) (src_report a.run 1 es ++ (cells_report a.run es)) c.write_run-after_run.result c.write_run-after_run.new.room
+run_written : (c : After-write_run)
+    → let i = c.args.input.now in
+    OnPage c.args.page.now (whole_report i.run (sources_in i)) (src_report i.run 1 (sources_in i) ++ cells_report i.run (sources_in i)) c.write_run.new.page
 unfolding whole_report
-run_written c = writing_more (starts (goal.at.After-write_run-after_run c).After-shared_slice_known-3-1) refl c.write_run-after_run.ensures
+run_written c = page_more (starts (goal.at.After-write_run c).Start) refl c.write_run.ensures
 
-sources_written : (c : After-write_sources-after_sources)
-    → let a = c.args in
-    let es = entries_of a.periods.now a.weights.now a.phases.now in
-    Writing a.room.now 0 (whole_report a.run es) (cells_report a.run es) c.write_sources-after_sources.result c.write_sources-after_sources.new.room
-sources_written c = writing_more (run_written (goal.at.After-write_sources-after_sources c).After-write_run-after_run) refl c.write_sources-after_sources.ensures
+sources_written : (c : After-write_sources)
+    → let i = c.args.input.now in
+    OnPage c.args.page.now (whole_report i.run (sources_in i)) (cells_report i.run (sources_in i)) c.write_sources.new.page
+sources_written c = page_more (run_written (goal.at.After-write_sources c).After-write_run) refl c.write_sources.ensures
 
-pub write_run-after_run-requires : goal.write_run-after_run-requires
+pub write_run-requires-clause-fits : goal.write_run-requires-clause-fits
 unfolding whole_report
-write_run-after_run-requires c =
-    let a = c.args in
-    let es = entries_of a.periods.now a.weights.now a.phases.now in
-    record {
-      valid = c.requires.valid.valid;
-      fits = piece_fits (starts (goal.at.write_run-after_run-requires c).After-shared_slice_known-3-1) (run_report a.run) (src_report a.run 1 es ++ cells_report a.run es) refl;
-    }
+write_run-requires-clause-fits c =
+    page_fits (starts (goal.at.write_run-requires-clause-fits c).Start) (run_report _) (src_report _ _ _ ++ cells_report _ _) refl
 
-pub write_sources-after_sources-requires : goal.write_sources-after_sources-requires
-write_sources-after_sources-requires c = record { valid = c.requires.valid; fits = piece_fits (run_written (goal.at.write_sources-after_sources-requires c).After-write_run-after_run) (src_report _ _ _) _ refl }
+pub write_sources-requires-clause-fits : goal.write_sources-requires-clause-fits
+write_sources-requires-clause-fits c =
+    page_fits (run_written (goal.at.write_sources-requires-clause-fits c).After-write_run) (src_report _ _ _) (cells_report _ _) refl
 
-pub write_map_of-requires : goal.write_map_of-requires
-write_map_of-requires c =
-    let few : c.cells-cells.result ≤ most_cells = omega (arith, c.cells-cells.ensures, c.requires.valid.few) in
-    let all : length c.cell_room-map.result ≡ most_cells = search rules in
-    let part = length-take-le (c.cells-cells.result - 0) c.cell_room-map.result (omega arith) in
-    record {
-      valid = c.requires.valid;
-      whole = omega (arith, part, c.cells-cells.ensures);
-      fits = last_fits (sources_written (goal.at.write_map_of-requires c).After-write_sources-after_sources) (cells_report _ _) refl;
-    }
+pub write_map_of-requires-clause-fits : goal.write_map_of-requires-clause-fits
+write_map_of-requires-clause-fits c =
+    page_fits_last (sources_written (goal.at.write_map_of-requires-clause-fits c).After-write_sources) (cells_report _ _) refl
 
 pub returns : goal.returns
-returns c = writing_last (sources_written (goal.at.returns c).After-write_sources-after_sources) c.write_map_of.ensures.written
+returns c = page_last (sources_written (goal.at.returns c).After-write_sources) c.write_map_of.ensures

@@ -1,23 +1,30 @@
--- `report::write_sources` meets its contract. The loop's invariant: the lines of the sources before place k are written, and those from
--- there on are within the limits. The measure is what is left of the list. Assumes nothing.
-use Rattle.rooms.proofs.Writing.{writing_long}
-use Rattle.report.proofs.Sources.{src_starts, src_valid, src_fits, src_written, src_ends}
+-- `report::write_sources` meets its contract. The loop's invariant: the lines of the sources with fewer than k before them are written.
+-- Assumes nothing.
+use Rattle.std.proofs.Common.{◌≡◌, Some, length, ap, arith}
+use Rattle.std.specs.List.{slice_get}
+use Rattle.decimal.proofs.Pages.{page_fits, page_more, page_ends}
+use Rattle.text.specs.Promise.{sources_in}
+use Rattle.report.specs.Report.{entry_report, src_report}
+use Rattle.report.proofs.Sources.{from_source, no_source, source_valid}
 use Rattle.report.proofs.write_sources.Goals as goal
+use Rattle.report.proofs.write_sources.Goals.{After-entry}
 
-pub loop-k-init : goal.loop-k-init
-loop-k-init c = src_starts c.requires.valid c.requires.fits
+-- the source of this turn
+here : (c : After-entry) → slice_get (sources_in c.args.input.now) c.loop-k.k ≡ Some c.entry.result
+here c = rw c.sources-sources.ensures at c.entry.ensures
 
-pub write_source-next-requires : goal.write_source-next-requires
-write_source-next-requires c =
-    let w = c.loop-k.invariant in
-    let a = c.requires.valid in
-    record { valid = (a.valid, src_valid w c.loop-k-test.true, a.few); fits = src_fits w c.loop-k-test.true }
+pub write_source-requires-clause-valid : goal.write_source-requires-clause-valid
+write_source-requires-clause-valid c =
+    let at = goal.at.write_source-requires-clause-valid c in
+    (c.requires.valid.valid, source_valid _ _ c.requires.valid (here at.After-entry), c.requires.valid.few)
+
+pub write_source-requires-clause-fits : goal.write_source-requires-clause-fits
+write_source-requires-clause-fits c =
+    page_fits c.loop-k.invariant (entry_report _ _ _) (src_report _ _ _) (from_source _ _ _ _ (here (goal.at.write_source-requires-clause-fits c).After-entry))
 
 pub loop-k-preserved : goal.loop-k-preserved
-loop-k-preserved c = src_written c.loop-k.invariant c.loop-k-test.true c.write_source-next.ensures
-
-pub shape_of-room : goal.shape_of-room
-shape_of-room c = writing_long c.loop-k.invariant.writing
+loop-k-preserved c =
+    page_more c.loop-k.invariant (from_source _ _ _ _ (here (goal.at.loop-k-preserved c).After-entry)) c.write_source.ensures
 
 pub returns : goal.returns
-returns c = src_ends c.loop-k.invariant c.loop-k-test.false
+returns c = page_ends c.loop-k.invariant (no_source _ _ _ (omega (arith, c.len-k-end.ensures, ap length c.sources-sources.ensures)))

@@ -1,71 +1,45 @@
--- `saved::judge_cells` meets its contract. The invariant of its loop: the first k blocks of cells pass their tests. The measure is how many bytes of cells are left.
--- Assumes nothing.
-use Prim.Native.Nat.{◌+◌, ◌*◌, ◌≤◌}
+-- `saved::judge_cells` meets its contract: each turn judges one block. Assumes nothing.
 use native.Mathlib.Omega.{arith}
-use lib.ListN.{length, length-take, length-drop}
-use Rattle.scope.proofs.Judged.{refuse_verdict, grant_verdict}
-use Rattle.fileblocks.specs.FileBlock.{file_block_bytes}
-use Rattle.saved.specs.File.{file_blocks_for, file_length}
-use Rattle.saved.proofs.Cells.{more_file_blocks}
+use Rattle.scope.proofs.Judged.{grant_verdict}
+use Rattle.scope.proofs.Verdicts.{stopped}
+use Rattle.saved.specs.File.{file_length, file_blocks_for}
+use Rattle.saved.proofs.Cells.{LaterBlocks, later_blocks}
 use Rattle.saved.proofs.Judging.{judged_none, judged_more, judged_fails, judged_all}
 use Rattle.saved.proofs.judge_cells.Goals as goal
+use Rattle.saved.proofs.judge_cells.Goals.{After-as_chunks}
+
+-- the blocks that are judged
+blocks : (c : After-as_chunks) → LaterBlocks c.args.size c.args.file.now c.as_chunks.result.0.now
+blocks c = later_blocks c.requires.1 c.as_chunks.ensures.front c.as_chunks.ensures.front_len
+
+pub slice_bounds-as_chunks-count : goal.slice_bounds-as_chunks-count
+unfolding file_length
+slice_bounds-as_chunks-count c = omega arith
+
+pub slice_bounds-as_chunks-start : goal.slice_bounds-as_chunks-start
+unfolding file_length
+slice_bounds-as_chunks-start c = omega arith
 
 pub loop-k-init : goal.loop-k-init
 loop-k-init c = judged_none
 
-pub overflow_mul-k : goal.overflow_mul-k
-unfolding file_blocks_for
-overflow_mul-k c = omega arith
-
-pub overflow_add-at : goal.overflow_add-at
-overflow_add-at c = omega arith
-
-pub overflow_mul-at : goal.overflow_mul-at
-overflow_mul-at c = omega arith
-
-pub overflow_add-next : goal.overflow_add-next
-overflow_add-next c = omega arith
-
-pub overflow_add-k : goal.overflow_add-k
-overflow_add-k c = omega arith
-
 pub overflow_cast-k : goal.overflow_cast-k
-overflow_cast-k c = omega arith
-
-pub overflow_mul-k-in-loop-k : goal.overflow_mul-k-in-loop-k
-overflow_mul-k-in-loop-k c = omega arith
+unfolding file_blocks_for
+overflow_cast-k c = omega (arith, (blocks (goal.at.overflow_cast-k c).After-as_chunks).count)
 
 pub overflow_sub-size : goal.overflow_sub-size
-overflow_sub-size c = omega arith
-
-pub slice_bounds-judge_file_block-count : goal.slice_bounds-judge_file_block-count
-slice_bounds-judge_file_block-count c = omega arith
-
-pub slice_bounds-judge_file_block-start : goal.slice_bounds-judge_file_block-start
-slice_bounds-judge_file_block-start c = omega arith
-
-pub slice_bounds-judge_file_block-end : goal.slice_bounds-judge_file_block-end
-unfolding file_blocks_for file_length
-slice_bounds-judge_file_block-end c = omega arith
-
-pub judge_file_block-requires : goal.judge_file_block-requires
-unfolding file_length
-judge_file_block-requires c =
-    let b = more_file_blocks c.loop-k-test.true in
-    let long : file_block_bytes * (c.loop-k.k + 1) + file_block_bytes ≤ length c.args.file.now = omega arith in
-    simp (length-take, length-drop) (omega arith)
-
-pub returns-in-Refused : goal.returns-in-Refused
-returns-in-Refused c = refuse_verdict (judged_fails c.loop-k.invariant c.loop-k-test.true (record { is = c.judge_file_block.ensures }) c.in-Refused.is)
-
-pub overflow_add-k-in-loop-k : goal.overflow_add-k-in-loop-k
-overflow_add-k-in-loop-k c = omega arith
-
-pub loop-k-smaller : goal.loop-k-smaller
-loop-k-smaller c = omega arith
+unfolding file_blocks_for
+overflow_sub-size c = omega (arith, (blocks (goal.at.overflow_sub-size c).After-as_chunks).count)
 
 pub loop-k-preserved : goal.loop-k-preserved
-loop-k-preserved c = judged_more c.loop-k.invariant c.loop-k-test.true (record { is = c.judge_file_block.ensures }) c.in_default.is
+loop-k-preserved c =
+    let b = blocks (goal.at.loop-k-preserved c).After-as_chunks in
+    judged_more c.loop-k.invariant (omega (arith, b.count)) (b.found _ (omega arith)) c.judge_file_block.ensures c.in_ok-judge_file_block.was
+
+pub returns-in_err-judge_file_block : goal.returns-in_err-judge_file_block
+returns-in_err-judge_file_block c =
+    let b = blocks (goal.at.returns-in_err-judge_file_block c).After-as_chunks in
+    stopped (judged_fails c.loop-k.invariant (omega (arith, b.count)) (b.found _ (omega arith)) c.judge_file_block.ensures c.in_err-judge_file_block.was) c.from_residual.ensures.1
 
 pub returns : goal.returns
-returns c = grant_verdict (judged_all c.loop-k.invariant c.loop-k-test.false)
+returns c = grant_verdict (judged_all c.loop-k.invariant (omega (arith, (blocks (goal.at.returns c).After-as_chunks).count)))

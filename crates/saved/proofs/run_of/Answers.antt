@@ -4,10 +4,4 @@ use Rattle.saved.proofs.run_of.Goals as goal
 
 pub returns : goal.returns
 unfolding run_of
-returns c =
-    λ i. record {
-      window = c.four_at.ensures i;
-      interval = c.four_at-2.ensures i;
-      first = c.four_at-3.ensures i;
-      last = c.four_at-4.ensures i;
-    }
+returns c = rw (← c.four_at.ensures, ← c.four_at-2.ensures, ← c.four_at-3.ensures, ← c.four_at-4.ensures) c.new.ensures

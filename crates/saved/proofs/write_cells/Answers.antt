@@ -1,71 +1,37 @@
--- `saved::write_cells` meets its contract. The invariant of its loop: the room is written with the first k blocks of cells. The measure is how many cells are left.
--- Assumes nothing.
+-- `saved::write_cells` meets its contract: each turn writes one whole block. Assumes nothing.
 use native.Mathlib.Omega.{arith}
-use lib.ListN.{length-take, length-drop}
-use Rattle.saved.specs.File.{file_blocks_for}
-use Rattle.rooms.proofs.Written.{written_length}
-use Rattle.saved.proofs.Cells.{cells_none, cells_more, cells_room, cells_all}
+use mathlib.Core.Path.{◌∙◌}
+use Rattle.std.specs.Slice.Iter.{chunks_rest}
+use Rattle.fileblocks.specs.FileBlock.{content_bytes}
+use Rattle.saved.proofs.Walk.{Next}
+use Rattle.saved.proofs.Cells.{cells_none, cells_room, cells_more, cells_all}
 use Rattle.saved.proofs.write_cells.Goals as goal
+use Rattle.saved.proofs.write_cells.Goals.{In-Some}
+
+-- the next cells of the map
+next : (c : In-Some) → Next content_bytes (chunks_rest c.loop-k.k-iterator.iter) c.in-Some.cells.now (chunks_rest c.next.new.self.iter)
+next c =
+    let step = c.in-Some.ensures.steps.0.1 in
+    record { some = step.2; cut = step.0; long = omega (arith, step.1, c.loop-k.invariant.pieces) }
 
 pub loop-k-init : goal.loop-k-init
-loop-k-init c = cells_none c.requires.0 c.requires.1
-
-pub overflow_mul-k : goal.overflow_mul-k
-unfolding file_blocks_for
-overflow_mul-k c = omega arith
-
-pub overflow_mul-from : goal.overflow_mul-from
-overflow_mul-from c = omega arith
-
-pub overflow_add-from : goal.overflow_add-from
-overflow_add-from c = omega arith
-
-pub overflow_mul-at : goal.overflow_mul-at
-overflow_mul-at c = omega arith
-
-pub overflow_add-next : goal.overflow_add-next
-overflow_add-next c = omega arith
-
-pub overflow_add-k : goal.overflow_add-k
-overflow_add-k c = omega arith
-
-pub overflow_cast-k : goal.overflow_cast-k
-overflow_cast-k c = omega arith
-
-pub slice_bounds-write_file_block-count : goal.slice_bounds-write_file_block-count
-slice_bounds-write_file_block-count c = omega arith
-
-pub slice_bounds-write_file_block-start : goal.slice_bounds-write_file_block-start
-slice_bounds-write_file_block-start c = omega arith
+loop-k-init c =
+    rw (c.into_iter-k-iterator.ensures.into_iter_gives, c.enumerate-k-items.ensures.source, c.enumerate-k-items.ensures.count, c.chunks.ensures.rest)
+    record { pieces = c.chunks.ensures.size; far = cells_none c.requires.0 c.requires.1 }
 
 pub slice_bounds-write_file_block-end : goal.slice_bounds-write_file_block-end
-slice_bounds-write_file_block-end c = omega arith
-
-pub slice_bounds-write_file_block-count-in-loop-k : goal.slice_bounds-write_file_block-count-in-loop-k
-slice_bounds-write_file_block-count-in-loop-k c = omega arith
-
-pub slice_bounds-write_file_block-start-in-loop-k : goal.slice_bounds-write_file_block-start-in-loop-k
-slice_bounds-write_file_block-start-in-loop-k c = omega arith
-
-pub slice_bounds-write_file_block-end-in-loop-k : goal.slice_bounds-write_file_block-end-in-loop-k
-slice_bounds-write_file_block-end-in-loop-k c = cells_room c.loop-k.invariant c.loop-k-test.true
-
-pub write_file_block-requires : goal.write_file_block-requires
-write_file_block-requires c =
-    let r = cells_room c.loop-k.invariant c.loop-k-test.true in
-    (simp (length-take, length-drop) (omega arith), simp (length-take, length-drop) (omega arith))
-
-pub overflow_add-k-in-loop-k : goal.overflow_add-k-in-loop-k
-overflow_add-k-in-loop-k c = omega arith
-
-pub loop-k-smaller : goal.loop-k-smaller
-loop-k-smaller c = omega arith
+slice_bounds-write_file_block-end c =
+    let n = next (goal.at.slice_bounds-write_file_block-end c).In-Some in
+    omega (arith, cells_room c.loop-k.invariant.far n.some, c.in-Some.ensures.steps.1)
 
 pub loop-k-preserved : goal.loop-k-preserved
-loop-k-preserved c = cells_more c.loop-k.invariant c.loop-k-test.true c.smaller-end.ensures c.write_file_block.ensures
-
-pub shape_of-room : goal.shape_of-room
-shape_of-room c = written_length c.loop-k.invariant.written
+loop-k-preserved c =
+    let step = c.in-Some.ensures.steps in
+    let n = next (goal.at.loop-k-preserved c).In-Some in
+    record {
+      pieces = step.0.0 ∙ c.loop-k.invariant.pieces;
+      far = rw (step.2, step.1) (cells_more c.loop-k.invariant.far n (rw step.1 at c.write_file_block.ensures));
+    }
 
 pub returns : goal.returns
-returns c = cells_all c.loop-k.invariant c.loop-k-test.false
+returns c = cells_all c.loop-k.invariant.far c.in-None.ensures.steps.0.1.0

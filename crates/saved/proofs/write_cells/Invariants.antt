@@ -1,13 +1,13 @@
--- `saved::write_cells` meets its contract. The invariant of its loop: the room is written with the first k blocks of cells. The measure is how many cells are left.
--- Assumes nothing.
-use Prim.Native.Nat.{◌*◌, ◌-◌}
-use lib.ListN.{length}
+-- `saved::write_cells` meets its contract. The invariant of its loop: the room is written with the first k blocks of cells, and the cells
+-- behind those are to come. Assumes nothing.
+use mathlib.Core.Path.{◌≡◌}
+use Rattle.std.specs.Slice.Iter.{chunks_rest, chunks_size}
 use Rattle.fileblocks.specs.FileBlock.{content_bytes}
 use Rattle.saved.proofs.Cells.{CellsWritten}
 use Rattle.saved.proofs.write_cells.Given as goal
 
 abbrev pub invariant-loop-k : goal.invariant-loop-k
-invariant-loop-k l = CellsWritten l.map l.initial.room l.room l.k
-
-abbrev pub decreases-loop-k : goal.decreases-loop-k
-decreases-loop-k l = length l.map - content_bytes * l.k
+invariant-loop-k l = record {
+  pieces : chunks_size l.k-iterator.iter ≡ content_bytes;
+  far : CellsWritten l.map (chunks_rest l.k-iterator.iter) l.initial.room l.room l.k-iterator.count;
+}

@@ -42,9 +42,6 @@ module _ (run : Run) where
 written : (c : After-put_four-4) → put_mid 16 4 (put_mid 12 4 (put_mid 8 4 (put_mid 4 4 blank c.put_four.new.room) c.put_four-2.new.room) c.put_four-3.new.room) c.put_four-4.new.room ≡ heading c.args.run
 written c = whole _ c.put_four.ensures c.put_four-2.ensures c.put_four-3.ensures c.put_four-4.ensures
 
-pub slice_bounds-bytes-end-2 : goal.slice_bounds-bytes-end-2
-slice_bounds-bytes-end-2 c = let l = written_length (one c.args.run c.put_four.ensures) in omega arith
-
 pub slice_bounds-bytes-end-3 : goal.slice_bounds-bytes-end-3
 slice_bounds-bytes-end-3 c = let l = written_length (two c.args.run c.put_four.ensures c.put_four-2.ensures) in omega arith
 

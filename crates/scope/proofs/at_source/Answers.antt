@@ -2,10 +2,10 @@
 use Rattle.scope.specs.Inner.{at_source}
 use Rattle.scope.proofs.at_source.Goals as goal
 
-pub returns-in-Fine : goal.returns-in-Fine
+pub returns-in-Ok : goal.returns-in-Ok
 unfolding at_source
-returns-in-Fine c = simp c.in-Fine.is
+returns-in-Ok c = simp c.in-Ok.is
 
-pub returns-in-Refused : goal.returns-in-Refused
+pub returns-in-Err : goal.returns-in-Err
 unfolding at_source
-returns-in-Refused c = simp c.in-Refused.is
+returns-in-Err c = simp c.in-Err.is

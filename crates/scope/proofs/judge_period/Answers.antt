@@ -1,17 +1,13 @@
--- `scope::judge_period` meets its contract: each return is the first test that fails, or none. Assumes nothing.
-use borrow.Author.Tests.{eq-eqb, ne_eqb, lt-ltb, le-ltb}
+-- `scope::judge_period` meets its contract: the first test that fails, or none. Assumes nothing.
 use Rattle.scope.specs.Refusal.{period_tests}
-use Rattle.scope.proofs.Judged.{broken, sound, first, then, both, refuse_verdict, grant_verdict}
+use Rattle.scope.proofs.Judged.{first, fine, blamed}
+use Rattle.scope.proofs.Verdicts.{stopped, passed}
 use Rattle.scope.proofs.judge_period.Goals as goal
 
-pub returns-then-period-eq0 : goal.returns-then-period-eq0
+pub returns-in_err-when : goal.returns-in_err-when
 unfolding period_tests
-returns-then-period-eq0 c = refuse_verdict (first (broken (eq-eqb _ _ c.if-period-eq0.true)))
-
-pub returns-then-period-gt2147483647 : goal.returns-then-period-gt2147483647
-unfolding period_tests
-returns-then-period-gt2147483647 c = refuse_verdict (then (sound (ne_eqb _ _ c.if-period-eq0.false)) (broken (lt-ltb _ _ c.if-period-gt2147483647.true)))
+returns-in_err-when c = stopped (first (blamed c.when.ensures c.in_err-when.was)) c.from_residual.ensures.1
 
 pub returns : goal.returns
 unfolding period_tests
-returns c = grant_verdict (both (sound (ne_eqb _ _ c.if-period-eq0.false)) (sound (le-ltb _ _ c.if-period-gt2147483647.false)))
+returns c = passed _ (fine c.when.ensures c.in_ok-when.was) c.when-2.ensures

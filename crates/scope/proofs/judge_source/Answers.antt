@@ -1,9 +1,13 @@
--- `scope::judge_source` meets its contract: the period's verdict comes before the phase's. Assumes nothing.
-use mathlib.Core.Path.{sym, ◌∙◌}
-use Rattle.scope.specs.Refusal.{period_tests, phase_tests, source_tests}
-use Rattle.scope.proofs.Verdicts.{verdict_then}
+-- `scope::judge_source` meets its contract: the first test that fails, or none. Assumes nothing.
+use Rattle.scope.specs.Refusal.{source_tests}
+use Rattle.scope.proofs.Judged.{first, fine, blamed}
+use Rattle.scope.proofs.Verdicts.{stopped, passed}
 use Rattle.scope.proofs.judge_source.Goals as goal
+
+pub returns-in_err-judge_period : goal.returns-in_err-judge_period
+unfolding source_tests
+returns-in_err-judge_period c = stopped (first (blamed c.judge_period.ensures c.in_err-judge_period.was)) c.from_residual.ensures.1
 
 pub returns : goal.returns
 unfolding source_tests
-returns c = c.first_of.ensures ∙ simp (c.judge_phase-of_phase.ensures, c.judge_period-of_period.ensures) (sym (verdict_then (period_tests _) (phase_tests _)))
+returns c = passed _ (fine c.judge_period.ensures c.in_ok-judge_period.was) c.judge_phase.ensures

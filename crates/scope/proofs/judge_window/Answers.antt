@@ -1,21 +1,17 @@
--- `scope::judge_window` meets its contract: each return is the first test that fails, or none. Assumes nothing.
-use borrow.Author.Tests.{eq-eqb, ne_eqb, lt-ltb, le-ltb}
+-- `scope::judge_window` meets its contract: the first test that fails, or none. Assumes nothing.
 use Rattle.scope.specs.Refusal.{window_tests}
-use Rattle.scope.proofs.Judged.{broken, sound, first, then, both, refuse_verdict, grant_verdict}
+use Rattle.scope.proofs.Judged.{first, then, both, fine, blamed}
+use Rattle.scope.proofs.Verdicts.{stopped, passed}
 use Rattle.scope.proofs.judge_window.Goals as goal
 
-pub returns-then-window-eq1 : goal.returns-then-window-eq1
+pub returns-in_err-when : goal.returns-in_err-when
 unfolding window_tests
-returns-then-window-eq1 c = refuse_verdict (first (first (broken (eq-eqb _ _ c.if-window-eq1.true))))
+returns-in_err-when c = stopped (first (first (blamed c.when.ensures c.in_err-when.was))) c.from_residual.ensures.1
 
-pub returns-then-window-lt2 : goal.returns-then-window-lt2
+pub returns-in_err-when-2 : goal.returns-in_err-when-2
 unfolding window_tests
-returns-then-window-lt2 c = refuse_verdict (first (then (sound (ne_eqb _ _ c.if-window-eq1.false)) (broken (lt-ltb _ _ c.if-window-lt2.true))))
-
-pub returns-then-window-gt4096 : goal.returns-then-window-gt4096
-unfolding window_tests
-returns-then-window-gt4096 c = refuse_verdict (then (both (sound (ne_eqb _ _ c.if-window-eq1.false)) (sound (le-ltb _ _ c.if-window-lt2.false))) (broken (lt-ltb _ _ c.if-window-gt4096.true)))
+returns-in_err-when-2 c = stopped (first (then (fine c.when.ensures c.in_ok-when.was) (blamed c.when-2.ensures c.in_err-when-2.was))) c.from_residual-in_err-when-2.ensures.1
 
 pub returns : goal.returns
 unfolding window_tests
-returns c = grant_verdict (both (both (sound (ne_eqb _ _ c.if-window-eq1.false)) (sound (le-ltb _ _ c.if-window-lt2.false))) (sound (le-ltb _ _ c.if-window-gt4096.false)))
+returns c = passed _ (both (fine c.when.ensures c.in_ok-when.was) (fine c.when-2.ensures c.in_ok-when-2.was)) c.when-3.ensures

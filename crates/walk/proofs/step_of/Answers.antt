@@ -1,10 +1,7 @@
 -- `walk::step_of` meets its contract: a line has at least as many cells as the offset leads left. Assumes nothing.
-use native.Mathlib.Omega.{arith}
+use Rattle.std.proofs.Common.{◌≡◌, ◌*◌, ◌≤◌, ℕ, arith, pos, nat_abs, ◌+ℤ◌}
 use native.Mathlib.Nat.{mul-le-mul, mul-le-mul_right}
-use mathlib.Core.Path.{◌≡◌, sym}
-use Prim.Native.Nat.{ℕ, ◌*◌, ◌≤◌}
-use lib.IntN.{pos, nat_abs, ◌+ℤ◌}
-use lib.Signed.{◌≤ℤ◌, yes_non_neg}
+use lib.Signed.{yes_non_neg, ◌≤ℤ◌}
 use mir.Syntax.{w64}
 use mir.Val.{SFits}
 use mir.Facts.{to_z-of_z, to_z_pos, Fits-nat_abs}
@@ -18,15 +15,12 @@ record Held (v : Vector) (window : ℕ) : Type 0 where
   offset : SFits w64 v.offset
   cells : SFits w64 (pos (v.line * window) +ℤ v.offset)
   ahead : pos 0 ≤ℤ (pos (v.line * window) +ℤ v.offset)
-  whole : pos (v.line * window) +ℤ v.offset ≡ pos (nat_abs (pos (v.line * window) +ℤ v.offset))
+  whole : pos (nat_abs (pos (v.line * window) +ℤ v.offset)) ≡ pos (v.line * window) +ℤ v.offset
 
 held : {v : Vector} {window : ℕ} → Short v window → Held v window
 held {v} {window} h =
     let few = mul-le-mul h.few h.wide in
     let some = mul-le-mul_right window h.rises in
-    let l = h.left in
-    let r = h.right in
-    let w = h.wide in
     let s = sum (pos (v.line * window)) v.offset in
     let a = apart v.offset in
     let b = apart (pos (v.line * window) +ℤ v.offset) in
@@ -34,20 +28,11 @@ held {v} {window} h =
     let u = neg_up (pos window) in
     record {
       few = omega arith;
-      offset = omega (arith, parts);
-      cells = omega (arith, parts);
-      ahead = omega (arith, parts);
-      whole = omega (arith, parts, abs_parts (pos (v.line * window) +ℤ v.offset));
+      offset = omega (arith, parts, h.left, h.right);
+      cells = omega (arith, parts, h.left, h.right);
+      ahead = omega (arith, parts, h.left);
+      whole = omega (arith, parts, h.left, abs_parts (pos (v.line * window) +ℤ v.offset));
     }
-
-pub overflow_mul-result : goal.overflow_mul-result
-overflow_mul-result c = let h = (held c.requires).few in record { fits = omega arith }
-
-pub overflow_cast-result-2 : goal.overflow_cast-result-2
-overflow_cast-result-2 c = let h = (held c.requires).few in omega (arith, parts)
-
-pub overflow_add-result : goal.overflow_add-result
-overflow_add-result c = let h = held c.requires in let few = h.few in simp (to_z_pos w64 {n = c.args.v.line * c.args.window} (omega arith), to_z-of_z h.offset) h.cells
 
 pub overflow_cast-result-3 : goal.overflow_cast-result-3
 overflow_cast-result-3 c =
@@ -59,4 +44,4 @@ pub returns : goal.returns
 returns c =
     let h = held c.requires in
     let few = h.few in
-    (to_z-of_z h.offset, simp (to_z_pos w64 {n = c.args.v.line * c.args.window} (omega arith), to_z-of_z h.offset, to_z-of_z h.cells) (sym h.whole))
+    (to_z-of_z h.offset, simp (to_z_pos w64 {n = c.args.v.line * c.args.window} (omega arith), to_z-of_z h.offset, to_z-of_z h.cells) h.whole)

@@ -1,40 +1,41 @@
--- `words::write_line` meets its contract. The loop's invariant: after the word, the numbers are written but for those from number k on.
--- The measure is what is left of them. Assumes nothing.
-use mathlib.Core.Path.{◌∙◌}
-use Rattle.words.proofs.Writing.{Spaced, space_fits, space_written, number_fits, number_written, newline_fits, newline_written, word_fits, word_written, line_written}
-use Rattle.rooms.proofs.Writing.{writing_long}
+-- `words::write_line` meets its contract. The loop's invariant: the numbers are written but for those from the one at the loop's index on.
+-- Assumes nothing.
+use Rattle.std.proofs.Common.{◌+◌, [], ◌∷◌, ◌++◌, get_or, drop, refl, sym}
+use Rattle.decimal.specs.Digits.{digits}
+use Rattle.decimal.proofs.Pages.{OnPage, page_starts, page_fits, page_fits_last, page_more, page_last, writes_same}
+use Rattle.words.specs.Line.{fields, line}
+use Rattle.words.proofs.Writing.{from_number, newline_left, word_then}
 use Rattle.words.proofs.write_line.Goals as goal
-use Rattle.words.proofs.write_line.Goals.{After-write_bytes-start}
+use Rattle.words.proofs.write_line.Goals.{Start, After-write_bytes-in-loop-number}
+
+-- the line is to be written
+starts : (c : Start) → OnPage c.args.page.now (line c.args.word.now c.args.numbers.now) (line c.args.word.now c.args.numbers.now) c.args.page.now
+starts c = page_starts c.args.page.now _ c.requires
 
 -- the space of this turn is written
-spaced : (c : After-write_bytes-start)
-    → Spaced c.write_bytes-next.new.room c.write_bytes-next.result c.args.numbers.now c.loop-k.k c.write_bytes-start.result c.write_bytes-start.new.room
-spaced c =
-    space_written c.loop-k.invariant c.loop-k-test.true c.write_bytes-start.ensures
-
-pub write_bytes-next-requires : goal.write_bytes-next-requires
-write_bytes-next-requires c = let a = c.args in word_fits a.room.now a.at a.word.now a.numbers.now c.requires
-
-pub loop-k-init : goal.loop-k-init
-loop-k-init c = word_written c.args.room.now c.args.at c.args.word.now c.args.numbers.now c.requires c.write_bytes-next.ensures
-
-pub write_bytes-start-requires : goal.write_bytes-start-requires
-write_bytes-start-requires c = space_fits c.loop-k.invariant c.loop-k-test.true
-
-pub write_number-next-requires : goal.write_number-next-requires
-write_number-next-requires c = number_fits (spaced (goal.at.write_number-next-requires c).After-write_bytes-start)
-
-pub loop-k-preserved : goal.loop-k-preserved
-loop-k-preserved c = number_written (spaced (goal.at.loop-k-preserved c).After-write_bytes-start) c.write_number-next.ensures
+spaced : (c : After-write_bytes-in-loop-number)
+    → let ns = c.args.numbers.now in
+    let k = c.loop-number.number-index in
+    OnPage c.args.page.now (line c.args.word.now ns) (digits (get_or ns k 0) ++ fields (drop (k + 1) ns)) c.write_bytes-in-loop-number.new.self
+spaced c = page_more c.loop-number.invariant (from_number _ _ c.loop-number-test.true) c.write_bytes-in-loop-number.ensures
 
 pub write_bytes-requires : goal.write_bytes-requires
-write_bytes-requires c = newline_fits c.loop-k.invariant c.loop-k-test.false
+write_bytes-requires c = page_fits (starts (goal.at.write_bytes-requires c).Start) _ _ (word_then _ _)
 
-pub shape_of-room : goal.shape_of-room
-shape_of-room c = c.write_bytes.auto.room ∙ writing_long c.loop-k.invariant.writing ∙ c.write_bytes-next.auto.room
+pub loop-number-init : goal.loop-number-init
+loop-number-init c = page_more (starts (goal.at.loop-number-init c).Start) (word_then _ _) c.write_bytes.ensures
+
+pub write_bytes-requires-in-loop-number : goal.write_bytes-requires-in-loop-number
+write_bytes-requires-in-loop-number c = page_fits c.loop-number.invariant (32 ∷ []) (digits _ ++ fields _) (from_number _ _ c.loop-number-test.true)
+
+pub write_number-requires : goal.write_number-requires
+write_number-requires c = page_fits (spaced (goal.at.write_number-requires c).After-write_bytes-in-loop-number) (digits _) (fields _) refl
+
+pub loop-number-preserved : goal.loop-number-preserved
+loop-number-preserved c = page_more (spaced (goal.at.loop-number-preserved c).After-write_bytes-in-loop-number) refl c.write_number.ensures
+
+pub write_bytes-requires-2 : goal.write_bytes-requires-2
+write_bytes-requires-2 c = page_fits_last c.loop-number.invariant (10 ∷ []) (sym (newline_left _ _ c.loop-number-test.false))
 
 pub returns : goal.returns
-returns c =
-    line_written c.args.room.now c.args.at c.args.word.now c.args.numbers.now c.requires
-    c.write_bytes-next.ensures
-    (newline_written c.loop-k.invariant c.loop-k-test.false c.write_bytes.ensures)
+returns c = page_last c.loop-number.invariant (writes_same (sym (newline_left _ _ c.loop-number-test.false)) c.write_bytes-2.ensures)

@@ -1,12 +1,9 @@
--- `words::write_line` meets its contract. The loop's invariant: after the word, the numbers are written but for those from number k on.
--- The measure is what is left of them. Assumes nothing.
-use Prim.Native.Nat.{◌-◌}
-use lib.ListN.{length}
-use Rattle.words.proofs.Writing.{Numbers}
+-- `words::write_line` meets its contract. The loop's invariant: the numbers are written but for those from the one at the loop's index on.
+-- Assumes nothing.
+use Rattle.std.proofs.Common.{drop}
+use Rattle.words.specs.Line.{fields, line}
+use Rattle.decimal.proofs.Pages.{OnPage}
 use Rattle.words.proofs.write_line.Given as goal
 
-abbrev pub invariant-loop-k : goal.invariant-loop-k
-invariant-loop-k l = Numbers l.initial.room l.initial.next l.numbers l.k l.next l.room
-
-abbrev pub decreases-loop-k : goal.decreases-loop-k
-decreases-loop-k l = length l.numbers - l.k
+abbrev pub invariant-loop-number : goal.invariant-loop-number
+invariant-loop-number l = OnPage l.fn.page (line l.word l.numbers) (fields (drop l.number-index l.numbers)) l.page

@@ -15,7 +15,7 @@ own_block block = record { window = refl; interval = refl; from = omega arith; t
 
 -- the block is a run too
 valid_block : (c : Else-first-run) → ValidRun (record { window = c.args.run.window; interval = c.args.run.interval; first = c.args.first; last = c.args.run.last })
-valid_block c = valid_run (fine c.judge_run-2.ensures c.in_default-judge_run.is) (omega arith)
+valid_block c = valid_run (fine c.judge_run-2.ensures c.in-Ok-Ok.is-1) (omega arith)
 
 pub cells-all-requires : goal.cells-all-requires
 cells-all-requires c = valid_block (goal.at.cells-all-requires c).Else-first-run
@@ -30,7 +30,7 @@ in_block-requires c =
 pub in_run-requires : goal.in_run-requires
 in_run-requires c =
     let same = ap (λ (cell : BlockCell). cell.0) c.in_block.ensures in (
-      valid_run (fine c.judge_run.ensures c.in_default.is) (omega arith),
+      valid_run (fine c.judge_run.ensures c.in-Ok-Ok.is-0) (omega arith),
       record { window = refl; interval = refl; from = c.if-first-run.false; to = omega arith },
       valid_block (goal.at.in_run-requires c).Else-first-run,
       omega (arith, c.if-all-cell.false, c.cells-all.ensures),

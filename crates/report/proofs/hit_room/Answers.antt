@@ -1,8 +1,0 @@
--- `report::hit_room` meets its contract. Assumes nothing.
-use mathlib.Core.Path.{refl}
-use Rattle.rooms.specs.Lists.{zeros}
-use Rattle.report.proofs.hit_room.Goals as goal
-
-pub returns : goal.returns
-unfolding zeros
-returns c = refl

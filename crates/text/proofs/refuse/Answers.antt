@@ -1,8 +1,0 @@
--- `text::refuse` meets its contract. Assumes nothing.
-use mathlib.Core.Path.{refl}
-use Rattle.rooms.specs.Lists.{zeros}
-use Rattle.text.proofs.refuse.Goals as goal
-
-pub returns : goal.returns
-unfolding zeros
-returns c = refl

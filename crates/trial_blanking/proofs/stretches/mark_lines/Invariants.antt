@@ -1,6 +1,0 @@
--- `trial_blanking::stretches::mark_lines` is safe and ends. What is lent keeps its length; the measure is the number of turns left.
-use Rattle.std.proofs.Common.{◌-◌}
-use Rattle.trial_blanking.proofs.stretches.mark_lines.Given as goal
-
-abbrev pub decreases-loop-x : goal.decreases-loop-x
-decreases-loop-x l = l.all - l.x

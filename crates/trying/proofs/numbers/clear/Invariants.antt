@@ -1,6 +1,0 @@
--- `trying::numbers::clear` is safe and ends. What is lent keeps its length; the measure is the number of turns left.
-use Rattle.std.proofs.Common.{◌-◌}
-use Rattle.trying.proofs.numbers.clear.Given as goal
-
-abbrev pub decreases-loop-x : goal.decreases-loop-x
-decreases-loop-x l = l.all - l.x

@@ -1,6 +1,0 @@
--- `trying::reference::expect_added` is safe and ends. What is lent keeps its length; the measure is the number of turns left.
-use Rattle.std.proofs.Common.{◌-◌}
-use Rattle.trying.proofs.reference.expect_added.Given as goal
-
-abbrev pub decreases-loop-x : goal.decreases-loop-x
-decreases-loop-x l = l.all - l.x

@@ -1,6 +1,0 @@
--- `trying::reference::judge_sources` is safe and ends. Nothing has to hold from turn to turn; the measure is the number of turns left.
-use Rattle.std.proofs.Common.{◌-◌}
-use Rattle.trying.proofs.reference.judge_sources.Given as goal
-
-abbrev pub decreases-loop-k : goal.decreases-loop-k
-decreases-loop-k l = l.all - l.k

@@ -1,6 +1,0 @@
--- `trying::spelling::put_words` is safe and ends. What is lent keeps its length; the measure is the number of turns left.
-use Rattle.std.proofs.Common.{◌-◌}
-use Rattle.trying.proofs.spelling.put_words.Given as goal
-
-abbrev pub decreases-loop-k : goal.decreases-loop-k
-decreases-loop-k l = l.size - l.k
