@@ -45,7 +45,8 @@ fn plus(cell: u8, weight: u8) -> u8
 }
 
 // Adds a weight to the cells of a line at the distances start, start + period, and so on. Counted by hand: a `for` over the distances by
-// `step_by` was tried, and is slower (both compiled and run side by side: 2 to 8 % more instructions, a fifth more time at few hits).
+// `step_by` was tried, and is slower (both compiled and run side by side: 2 to 8 % more instructions, a fifth more time at few hits; what
+// is aimed at beside C is met at a window of 64 by one part in a hundred).
 fn add_line(line: &mut [u8], start: usize, period: usize, weight: u8)
     requires { (start < period) × (period < 2 ^ 32) }
     ensures { line.new ≡ raised ceiling (spaced period start weight) 0 line.old }
@@ -138,8 +139,8 @@ fn add_source(run: Run, entry: Entry, map: &mut [u8])
     }
 }
 
-// Adds the sources with low ≤ period < high to the map of a run, one after the other. Run, sources and map stay three, here and in the
-// steps around it: what is known of them is of the lent map too, and a struct would have to be lent anew at each step.
+// Adds the sources with low ≤ period < high to the map of a run, one after the other. Run, entry or sources, and map stay three, here and in
+// the steps around it: what is known of them is of the lent map too, and a struct would have to be lent anew at each step.
 fn add_chosen(run: Run, sources: &Sources, low: u32, high: u32, map: &mut [u8])
     requires { ValidCall run sources.now map.old }
     ensures { map.new ≡ added ceiling run (chosen low high sources.now) map.old }
@@ -243,7 +244,8 @@ fn map_call(
 
 // Public operation, the plain map call. Makes the map of a run: every cell becomes the sum of the weights of all listed sources that hit
 // it, up to the ceiling, whatever it held. Refused, in this order: 1, 17, 18, 3 for the run, 10 for lists of unequal length, 4, 7 or 22 for
-// the first source at fault, with its place, 9 for a map not of the run's length. Refused, it has not cleared the map.
+// the first source at fault, with its place, 9 for a map not of the run's length. Refused, it has not cleared the map. This and the
+// adding call are two functions of one form: both are public operations, and C calls each.
 pub fn make_map(
     run: Run,
     periods: &[u32],

@@ -75,7 +75,8 @@ fn write_cells(page: &mut Page<'_>, map: &[u8])
     words::write_line(page, b"end", &[count_above(map)]);
 }
 
-// How many cells of a run a source hits. They are no more than its cells, so all of them are listed in one call.
+// How many cells of a run a source hits. They are no more than its cells, so all of them are listed in one call. The room for them is an
+// array, as that of the cells below, since there is no heap.
 fn count_hits(run: Run, source: Source) -> u64
     requires { ValidRun run × ValidSource source × (cells_of run ≤ most_cells) }
     ensures { result ≡ length (hits_from run source 0) }

@@ -11,7 +11,8 @@ ghost use Rattle.scope.specs.Refusal.{◌when◌, number, complaint, window_test
 // What a weight, and a cell of a map, is at most: `ceiling` of the specs. A cell is as wide as this number.
 pub const CEILING: u8 = 255;
 
-// A run: the window's width and the interval in ticks, the first and the last line. Lines run from 0.
+// A run: the window's width and the interval in ticks, the first and the last line. Lines run from 0. That a run is within the limits
+// stays a clause where no source goes with it: the public operations take any run, and a struct for it would be opened at each step.
 #[derive(Clone, Copy, PartialEq, Eq)]
 pub struct Run {
     pub window: u32,
@@ -27,7 +28,8 @@ pub struct Source {
     pub phase: u32,
 }
 
-// A cell number of the run that a call is about; where the call is about a block, that block is its run.
+// A cell number of the run that a call is about; where the call is about a block, that block is its run. This and the next are two structs
+// alike: document 01 names two tuple structs, so that neither number is taken for the other.
 #[derive(Clone, Copy, PartialEq, Eq)]
 pub struct RunCell(pub u64);
 
@@ -231,7 +233,7 @@ pub fn cells(run: Run) -> u64
 }
 
 // "(block's first line - run's first line)·I": what turns a block's cell number into the run's. Run and block stay two, each with its own
-// facts: a struct of them would serve this one shift.
+// facts: a struct of them would serve this and the two below, all of one shift.
 fn block_shift(run: Run, block: Run) -> u64
     requires { ValidRun run × IsBlock run block × ValidRun block }
     ensures { result ≡ shift_of run block }

@@ -9,7 +9,7 @@ use scope::{Run, Source};
 use trying::reference::{Judged, Lists, alone, at_place};
 use trying::tally::Tally;
 
-// A run with a window of 4.
+// A run with a window of 4. (`Run::new` would name no number that differs.)
 fn run_of(interval: u32, first: u32, last: u32) -> Run {
     Run {
         window: 4,

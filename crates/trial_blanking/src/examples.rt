@@ -9,7 +9,7 @@ use trying::numbers;
 use trying::reference::{Refusal, alone};
 use trying::tally::Tally;
 
-// A run with a window of 4.
+// A run with a window of 4. (`Run::new` would name no number that differs.)
 fn run_of(first: u32, last: u32) -> Run {
     Run {
         window: 4,

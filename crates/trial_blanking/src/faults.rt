@@ -23,7 +23,7 @@ fn judge(set: u8) -> Judged {
     }
 }
 
-// Lines 1 to 5; or the last before the first, or above its limit, or both.
+// Lines 1 to 5; or the last before the first, or above its limit, or both. (`Run::new` would not name what is spoilt.)
 fn run_of(set: u8) -> Run {
     let (first, last) = match (has(set, 1), has(set, 2)) {
         (false, false) => (1, 5),

@@ -84,7 +84,8 @@ pub fn count(marks: &[bool]) -> usize {
     (0..marks.len()).filter(|k| ends(marks, *k)).count()
 }
 
-// Makes a room what it is to be after the stretches of the marked lines are written, as far as it goes.
+// Makes a room what it is to be after the stretches of the marked lines are written, as far as it goes. By place: the marks before and
+// after are looked at too.
 pub fn expect_stretches(first: u32, marks: &[bool], room: &mut [u32]) {
     let mut next: usize = 0;
     for k in 0..marks.len() {

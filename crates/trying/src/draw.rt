@@ -208,7 +208,7 @@ impl<const N: usize> Drawn<N> {
     }
 }
 
-// Draws sources, the first that of a case, with a fault one time in so many.
+// Draws sources, the first that of a case, with a fault one time in so many. By place: three lists are filled at once.
 pub fn draw_sources<const N: usize>(case: Case, state: State, times: u32) -> Drawn<N> {
     let mut drawn = Drawn {
         periods: [0; N],

@@ -16,7 +16,7 @@ fn number_at(bytes: &[u8], at: usize) -> u32 {
         .map_or(0, |number| u32::from_le_bytes(*number))
 }
 
-// Puts a number into the four bytes of a block from a position on.
+// Puts a number into the four bytes of a block from a position on. Byte by byte: `zip` ends with the shorter, so that no length is asked.
 fn put_number(block: &mut Block, at: usize, number: u32) {
     let place = block.iter_mut().skip(at);
     for (byte, value) in place.zip(number.to_le_bytes()) {
@@ -57,7 +57,7 @@ fn put_heading(run: Run, block: &mut Block) {
     put_check(block);
 }
 
-// Puts a later block: its number, up to 504 cells, zeros, the check.
+// Puts a later block: its number, up to 504 cells (byte by byte, as above), zeros, the check.
 fn put_later(number: u32, cells: &[u8], block: &mut Block) {
     block.fill(0);
     put_number(block, 0, number);
@@ -80,7 +80,7 @@ pub fn lay_down(run: Run, map: &[u8], file: &mut [u8]) {
     }
 }
 
-// The run that block 0 tells.
+// The run that block 0 tells. (Of the library the type alone, and no `Run::new`.)
 pub fn run_of(file: &[u8]) -> Run {
     Run {
         window: number_at(file, 8),

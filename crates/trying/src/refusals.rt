@@ -29,7 +29,7 @@ fn number_of(reason: Reason) -> u8 {
     }
 }
 
-// The place of the source that a refusal concerns, if it concerns one.
+// The place of the source that a refusal concerns, if it concerns one. No From: neither type is of this crate.
 fn place_of(place: Place) -> Option<u64> {
     match place {
         Place::Nowhere => None,
