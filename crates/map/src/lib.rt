@@ -45,8 +45,8 @@ fn plus(cell: u8, weight: u8) -> u8
 }
 
 // Adds a weight to the cells of a line at the distances start, start + period, and so on. Counted by hand: a `for` over the distances by
-// `step_by` was tried, and is slower (both compiled and run side by side: 2 to 8 % more instructions, a fifth more time at few hits; what
-// is aimed at beside C is met at a window of 64 by one part in a hundred).
+// `step_by` was tried, and is slower (run side by side on x86-64: 2 to 8 % more instructions, a fifth more time at few hits; the aim beside
+// C at a window of 64 was last met on Arm, by one part in a hundred).
 fn add_line(line: &mut [u8], start: usize, period: usize, weight: u8)
     requires { (start < period) × (period < 2 ^ 32) }
     ensures { line.new ≡ raised ceiling (spaced period start weight) 0 line.old }

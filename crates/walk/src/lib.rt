@@ -103,8 +103,8 @@ pub fn plan(asked: Asked) -> Walk
 
 // Inner step. The run's first hit, sought from its first line on; its cell is the number of cells if there is none, as a walk's is
 // past the last hit. No Option: tried, and slower. The loop that adds to a map then keeps an offset in memory, not in a register
-// (30 periods of 3 to 2,000 at windows of 64 and 512: 1.16 and 1.14 times as long; what is aimed at beside C is met at 64 by one part in
-// a hundred).
+// (30 periods of 3 to 2,000 at windows of 64 and 512, x86-64: 1.16 and 1.14 times as long; the aim beside C at 64 was last met on Arm, by
+// one part in a hundred).
 pub fn begin(asked: Asked) -> LineHit
     ensures { Begun asked.run asked.source result }
 {
