@@ -1,9 +1,9 @@
 -- Cells that are looked at together: in a group, in one group after the other, and by the largest of them. Assumes nothing.
-use Rattle.std.proofs.Common.{ℕ, zero, suc, ◌+◌, ◌-◌, ◌*◌, ◌≤◌, ◌<◌, max, ◌≡◌, refl, sym, ◌∙◌, ◌↔◌, ◌⊎◌, inl, inr, Bool, true, false, ◌||◌, leb, List, [], ◌∷◌, length, get_or, take, drop, arith, Option, MatchOption, MatchBool}
-use Rattle.std.specs.List.{fold, reduce, HoldsAt, AllWithin}
+use Rattle.std.proofs.Common.{ℕ, zero, suc, ◌+◌, ◌-◌, ◌*◌, ◌/◌, ◌≤◌, ◌<◌, ◌≡◌, refl, sym, ◌↔◌, ◌⊎◌, inl, inr, Bool, true, false, ◌||◌, leb, List, [], ◌∷◌, length, get_or, take, drop, arith, MatchBool}
+use Rattle.std.specs.List.{fold, HoldsAt, AllWithin}
 use Rattle.std.specs.Simd.{first_chunks}
 use Rattle.std.proofs.lemmas.Bool.{false≢true}
-use native.Mathlib.Decide.{dec_le, dec_lt}
+use native.Mathlib.Decide.{dec_lt}
 use borrow.Author.Tests.{leb-true, le-leb}
 use lib.ListN.{length-take, length-drop}
 use lib.Seq.{get_or-take, get_or-drop, drop-drop}
@@ -78,6 +78,10 @@ module _ (threshold : ℕ) where
   abbrev pub NoGroup : List (List ℕ) → Type 0
   NoGroup groups = AllWithin (λ group. Reaches group threshold → ⊥) groups 0 (length groups)
 
+  -- what `any` says of groups of n
+  abbrev pub ToldOf : ℕ → List ℕ → Bool → Type 0
+  ToldOf n cells found = let groups = first_chunks n (length cells / n) cells in MatchBool found (SomeGroup groups) (NoGroup groups)
+
   some_group : (n c : ℕ) (xs : List ℕ) → SomeGroup (first_chunks n c xs) → Reaches xs threshold
   some_group n zero xs s = absurd (omega (arith, s.1))
   some_group n (suc c) xs s = go (some_group n c (drop n xs)) s.0 s.1 s.2
@@ -108,35 +112,8 @@ module _ (threshold : ℕ) where
     rest_reaches true m e = absurd (false≢true (sym e))
     rest_reaches false m e = (λ r. (part_or (c * n) xs).1 (inr r), no_group n c xs m)
 
-  -- ---- by the largest
+  -- ---- one by one
 
-  largest_tells : (xs : List ℕ) (top : ℕ) → (threshold ≤ fold max top xs) ↔ ((threshold ≤ top) ⊎ Reaches xs threshold)
-  largest_tells [] top = (inl, none)
-    where
-      none : (threshold ≤ top) ⊎ Reaches [] threshold → threshold ≤ top
-      none (inl l) = l
-      none (inr r) = absurd (omega (arith, r.1))
-  largest_tells (x ∷ xs) top = let others = largest_tells xs (max top x) in (λ l. to (others.0 l) (dec_le threshold top), λ r. others.1 (from r))
-    where
-      to : (threshold ≤ max top x) ⊎ Reaches xs threshold → Dec (threshold ≤ top) → (threshold ≤ top) ⊎ Reaches (x ∷ xs) threshold
-      to h (yes l) = inl l
-      to (inl h) (no l) = inr ((first_or x xs).1 (inl (omega arith)))
-      to (inr r) (no l) = inr ((first_or x xs).1 (inr r))
-
-      either : (threshold ≤ x) ⊎ Reaches xs threshold → (threshold ≤ max top x) ⊎ Reaches xs threshold
-      either (inl l) = inl (omega arith)
-      either (inr r) = inr r
-
-      from : (threshold ≤ top) ⊎ Reaches (x ∷ xs) threshold → (threshold ≤ max top x) ⊎ Reaches xs threshold
-      from (inl l) = inl (omega arith)
-      from (inr r) = either ((first_or x xs).0 r)
-
-  pub largest_reaches : (xs : List ℕ) (largest : Option ℕ) (reached : Bool) → largest ≡ reduce max xs → MatchOption largest (reached ≡ false) (λ top. reached ≡ leb threshold top) → (reached ≡ true) ↔ Reaches xs threshold
-  largest_reaches [] largest reached e m = (λ t. absurd (false≢true (sym (rw e at m) ∙ t)), λ r. absurd (omega (arith, r.1)))
-  largest_reaches (x ∷ xs) largest reached e m = (λ t. (first_or x xs).1 (tells.0 (leb-true threshold (fold max x xs) (sym is ∙ t))), λ r. is ∙ le-leb threshold (fold max x xs) (tells.1 ((first_or x xs).0 r)))
-    where
-      is : reached ≡ leb threshold (fold max x xs)
-      is = rw e at m
-
-      tells : (threshold ≤ fold max x xs) ↔ ((threshold ≤ x) ⊎ Reaches xs threshold)
-      tells = largest_tells xs x
+  pub cells_reach : (xs : List ℕ) (found : Bool) → MatchBool found ((k : ℕ) × (k < length xs) × HoldsAt (λ x. threshold ≤ x) xs k) (AllWithin (λ x. threshold ≤ x → ⊥) xs 0 (length xs)) → (found ≡ true) ↔ Reaches xs threshold
+  cells_reach xs true m = (λ e. (m.0, m.1, m.2 0), λ r. refl)
+  cells_reach xs false m = (λ e. absurd (false≢true e), λ r. absurd (m r.0 0 (omega arith) (omega (arith, r.1)) r.2))

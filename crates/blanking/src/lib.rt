@@ -2,7 +2,7 @@
 // Every function is proved. `list_stretches` is the one public operation here, and it asks nothing of its caller.
 #![tactic(auto)]
 
-ghost use Rattle.std.specs.Prelude.{◌≡◌, ℕ, true, ◌↔◌, ◌+◌, ◌-◌, ◌/◌, ◌≤◌, pos, ◌+ℤ◌};
+ghost use Rattle.std.specs.Prelude.{◌≡◌, ℕ, true, false, ◌↔◌, ◌+◌, ◌-◌, ◌/◌, ◌≤◌, pos, ◌+ℤ◌};
 ghost use Rattle.std.specs.Iterator.{at_most};
 ghost use Rattle.scope.specs.Refusal.{complaint};
 ghost use Rattle.scope.specs.Inner.{verdict};
@@ -46,6 +46,8 @@ struct StretchesFrom<'a> {
 
 // So many cells are looked at in one go: as many as a vector register holds.
 const GROUP: usize = 16;
+// And so many of those after the last of these groups: guards of 4, 8 or 12 cells have no others.
+const FOUR: usize = 4;
 
 // What the table says of a guard: whether it reaches outside the window, to the left or to the right, or is upside down.
 fn judge_guard(window: u32, guard: Guard) -> Result<(), Refusal>
@@ -76,8 +78,10 @@ fn distance(window: u32, offset: i64) -> usize
 }
 
 // Whether one of a group of cells is at or above the threshold. Each of them is looked at, also after one that is: of that the compiler
-// makes a few vector instructions, where an `any` would leave the group at the first.
-fn group_reaches(group: &[u8; GROUP], threshold: u8) -> bool
+// makes a few vector instructions, where an `any` would leave the group at the first. A slice, so that groups of any length share it; inlined,
+// so that the compiler sees the length.
+#[inline(always)]
+fn group_reaches(group: &[u8], threshold: u8) -> bool
     ensures { (result ≡ true) ↔ Reaches group.now threshold }
 {
     group
@@ -85,24 +89,31 @@ fn group_reaches(group: &[u8; GROUP], threshold: u8) -> bool
         .fold(false, |reached, cell| reached | (threshold <= *cell))
 }
 
+// The same of fewer cells than a group has: four at a time, and the last up to three one by one.
+#[inline(always)]
+fn rest_reaches(rest: &[u8], threshold: u8) -> bool
+    ensures { (result ≡ true) ↔ Reaches rest.now threshold }
+{
+    let (fours, last) = rest.as_chunks::<FOUR>();
+    fours.iter().any(|four| group_reaches(four, threshold))
+        || last.iter().any(|cell| threshold <= *cell)
+}
+
 // Whether one of these cells is at or above the threshold. They are looked at in groups, and no further than to the first group that
-// has one; the largest is taken of the few cells after the last group.
+// has one; then those after the last group.
+#[inline(always)]
 fn reaches(cells: &[u8], threshold: u8) -> bool
     ensures { (result ≡ true) ↔ Reaches cells.now threshold }
 {
     let (groups, rest) = cells.as_chunks::<GROUP>();
-    groups.iter().any(|group| group_reaches(group, threshold))
-        || rest
-            .iter()
-            .copied()
-            .max()
-            .is_some_and(|top| threshold <= top)
+    groups.iter().any(|group| group_reaches(group, threshold)) || rest_reaches(rest, threshold)
 }
 
 impl<'a> Asked<'a> {
     ghost use Rattle.blanking.specs.InnerAsking.{Blanks};
 
     // Whether a line of the run is blanked: of its cells those of the guard alone are looked at.
+    #[inline(always)]
     fn is_blanked(&self, line: u32) -> bool
         requires { (self.now.run.first ≤ line) × (line ≤ self.now.run.last) }
         ensures { (result ≡ true) ↔ Blanks self.now line }
@@ -119,13 +130,23 @@ impl<'a> Asked<'a> {
         reaches(&map[from..end], threshold)
     }
 
-    // The first line from `line` on that is blanked, or the first that is not, as `blanked` says, where the run has one. One search for both:
-    // they differ in what is looked for, not in a step.
-    fn next_line(&self, line: u32, blanked: bool) -> Option<u32>
+    // The first line from `line` on that is blanked, where the run has one. This and the next are two functions, inlined, so that a step from
+    // stretch to stretch is one loop after the other, with no call: each has a `find` of its own.
+    #[inline(always)]
+    fn next_blanked(&self, line: u32) -> Option<u32>
         requires { self.now.run.first ≤ line }
-        ensures { NextLine self.now.run.last (Blanks self.now) line blanked result }
+        ensures { NextLine self.now.run.last (Blanks self.now) line true result }
     {
-        (line..self.run.last + 1).find(|line| self.is_blanked(*line) == blanked)
+        (line..self.run.last + 1).find(|line| self.is_blanked(*line))
+    }
+
+    // The first line from `line` on that is not blanked, where the run has one.
+    #[inline(always)]
+    fn next_clear(&self, line: u32) -> Option<u32>
+        requires { self.now.run.first ≤ line }
+        ensures { NextLine self.now.run.last (Blanks self.now) line false result }
+    {
+        (line..self.run.last + 1).find(|line| !self.is_blanked(*line))
     }
 
     // The stretches of the run, from its first line on.
@@ -165,10 +186,8 @@ impl Iterator for StretchesFrom<'_> {
     fn next(&mut self) -> Option<Stretch> {
         // the first line that is blanked, and after it the first that is not
         let asked = self.asked;
-        let first = asked.next_line(self.line, true)?;
-        let end = asked
-            .next_line(first + 1, false)
-            .unwrap_or(asked.run.last + 1);
+        let first = asked.next_blanked(self.line)?;
+        let end = asked.next_clear(first + 1).unwrap_or(asked.run.last + 1);
         self.line = end + 1;
         Some(Stretch {
             first,

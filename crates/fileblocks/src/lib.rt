@@ -8,6 +8,7 @@ ghost use Rattle.scope.specs.Refusal.{complaint};
 ghost use Rattle.scope.specs.Inner.{verdict};
 ghost use Rattle.fileblocks.specs.FileBlock.{file_block_bytes, content_bytes, check_at, four, four_at, check_of, file_block_of, all_zero, sealed_with, file_block_tests};
 
+use rooms::copy;
 use scope::{Reason, Refusal};
 
 // A file block has so many bytes: its number, its contents, its check.
@@ -28,9 +29,9 @@ fn check(block: &[u8]) -> u32
 {
     let mut total: u32 = 0;
     let mut sum: u32 = 0;
-    for byte in block[..CHECK_AT].iter().rev() {
+    for row in 1..CHECK_AT + 1 {
         let above = total;
-        total = above + u32::from(*byte);
+        total = above + u32::from(block[CHECK_AT - row]);
         sum += total;
     }
     sum + 1
@@ -70,7 +71,7 @@ pub fn write_file_block(number: u32, bytes: &[u8], block: &mut [u8])
 {
     let end = CONTENT_AT + bytes.len();
     put_four(&mut block[0..CONTENT_AT], number);
-    block[CONTENT_AT..end].copy_from_slice(bytes);
+    copy(bytes, &mut block[CONTENT_AT..end]);
     block[end..CHECK_AT].fill(0);
     let sum = check(block);
     put_four(&mut block[CHECK_AT..FILE_BLOCK_BYTES], sum);

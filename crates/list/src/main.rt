@@ -89,9 +89,11 @@ fn list<R: Read, W: Write>(input: &mut R, output: &mut W) -> Result<(), Failure>
     print(output, reading, text, &bytes[..length])
 }
 
+// What is written goes through `io::writer`: its `write_all` gives up where signals interrupt a write again and again, that of `rt.stdout()`
+// would go on.
 fn main(rt: HostRuntime) {
     let mut input = rt.stdin();
-    let mut output = rt.stdout();
+    let mut output = io::writer(&rt);
     if let Err(failure) = list(&mut input, &mut output) {
         let _ = eprintln!(rt; "list: {failure}");
     }

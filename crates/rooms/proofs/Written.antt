@@ -64,6 +64,10 @@ module _ {room : List ℕ} {at : ℕ} {bytes : List ℕ} {next : ℕ} {after : L
         kept = v.kept ∙ rw (written_front, skip) (simp append_assoc);
       }
 
+  -- one number more
+  pub written_more : (b : ℕ) → next < length room → Written room at (bytes ++ (b ∷ [])) (next + 1) (set after next b)
+  written_more b h = written_append (written_one after next b (omega (arith, written_length)))
+
   -- a part more, lent and come back
   pub written_part : (end : ℕ) (part : List ℕ) → next ≤ end → end ≤ length room → length part ≡ end - next
       → Written room at (bytes ++ part) end (put_mid next (end - next) after part)

@@ -16,6 +16,7 @@ use fileblocks::{
     CONTENT_AT, CONTENT_BYTES, FILE_BLOCK_BYTES, four_at, judge_file_block, put_four,
     write_file_block, zeros_from,
 };
+use rooms::copy;
 use scope::{Reason, Refusal, Run};
 
 // Block 0 holds so many bytes: the version, three spare bytes and the run's four numbers.
@@ -96,8 +97,8 @@ fn judge_cells(size: usize, file: &[u8]) -> Result<(), Refusal>
     ensures { result ≡ verdict (complaint (later_file_blocks_tests size file.now (file_blocks_for size))) }
 {
     let (later, _) = file[FILE_BLOCK_BYTES..].as_chunks::<FILE_BLOCK_BYTES>();
-    for (k, block) in later.iter().enumerate() {
-        judge_file_block((k + 1) as u32, size - CONTENT_BYTES * k, block)?;
+    for k in 0..size.div_ceil(CONTENT_BYTES) {
+        judge_file_block((k + 1) as u32, size - CONTENT_BYTES * k, &later[k])?;
     }
     Ok(())
 }
@@ -142,7 +143,10 @@ fn load(file: &[u8], map: &mut [u8])
     for (k, block) in later.iter().enumerate() {
         let from = CONTENT_BYTES * k;
         let end = map.len().min(from + CONTENT_BYTES);
-        map[from..end].copy_from_slice(&block[CONTENT_AT..CONTENT_AT + (end - from)]);
+        copy(
+            &block[CONTENT_AT..CONTENT_AT + (end - from)],
+            &mut map[from..end],
+        );
     }
 }
 
@@ -152,8 +156,8 @@ fn load(file: &[u8], map: &mut [u8])
 pub fn read(file: &[u8], map: &mut [u8]) -> Result<Run, Refusal>
     ensures { ReadingPromise file.now map.old result map.new }
 {
-    let run = judge_file(file)?;
-    Reason::Room.when(map.len() as u64 != scope::cells(run))?;
+    let saved = judge_file(file)?;
+    Reason::Room.when(map.len() as u64 != scope::cells(saved))?;
     load(file, map);
-    Ok(run)
+    Ok(saved)
 }

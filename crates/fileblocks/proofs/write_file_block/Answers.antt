@@ -8,7 +8,7 @@ unfolding zeros
 returns c =
     written_file_block _ _ c.args.block.now c.requires.0 c.requires.1
     c.put_four.ensures
-    c.copy_from_slice.ensures.after
+    c.copy.ensures
     (c.fill.ensures.after (λ y e. e))
     c.check-sum.ensures
     c.put_four-2.ensures

@@ -31,15 +31,22 @@ pub overflow_sub-size : goal.overflow_sub-size
 unfolding file_blocks_for
 overflow_sub-size c = omega (arith, (blocks (goal.at.overflow_sub-size c).After-as_chunks).count)
 
+pub bounds-later-k : goal.bounds-later-k
+unfolding file_blocks_for
+bounds-later-k c = omega (arith, (blocks (goal.at.bounds-later-k c).After-as_chunks).count)
+
 pub loop-k-preserved : goal.loop-k-preserved
+unfolding file_blocks_for
 loop-k-preserved c =
     let b = blocks (goal.at.loop-k-preserved c).After-as_chunks in
     judged_more c.loop-k.invariant (omega (arith, b.count)) (b.found _ (omega arith)) c.judge_file_block.ensures c.in_ok-judge_file_block.was
 
 pub returns-in_err-judge_file_block : goal.returns-in_err-judge_file_block
+unfolding file_blocks_for
 returns-in_err-judge_file_block c =
     let b = blocks (goal.at.returns-in_err-judge_file_block c).After-as_chunks in
     stopped (judged_fails c.loop-k.invariant (omega (arith, b.count)) (b.found _ (omega arith)) c.judge_file_block.ensures c.in_err-judge_file_block.was) c.from_residual.ensures.1
 
 pub returns : goal.returns
+unfolding file_blocks_for
 returns c = grant_verdict (judged_all c.loop-k.invariant (omega (arith, (blocks (goal.at.returns c).After-as_chunks).count)))

@@ -24,13 +24,21 @@ slice_bounds-as_chunks-start c = omega arith
 pub loop-k-init : goal.loop-k-init
 loop-k-init c = read_none c.requires
 
-pub slice_bounds-copy_from_slice-count : goal.slice_bounds-copy_from_slice-count
+pub slice_bounds-copy-count : goal.slice_bounds-copy-count
 unfolding file_blocks_for
-slice_bounds-copy_from_slice-count c = omega (arith, (blocks (goal.at.slice_bounds-copy_from_slice-count c).After-as_chunks).count, c.loop-k.invariant.same)
+slice_bounds-copy-count c = omega (arith, (blocks (goal.at.slice_bounds-copy-count c).After-as_chunks).count, c.loop-k.invariant.same)
 
-pub slice_bounds-copy_from_slice-start : goal.slice_bounds-copy_from_slice-start
+pub slice_bounds-copy-start : goal.slice_bounds-copy-start
 unfolding file_blocks_for
-slice_bounds-copy_from_slice-start c = omega (arith, (blocks (goal.at.slice_bounds-copy_from_slice-start c).After-as_chunks).count, c.loop-k.invariant.same)
+slice_bounds-copy-start c = omega (arith, (blocks (goal.at.slice_bounds-copy-start c).After-as_chunks).count, c.loop-k.invariant.same)
+
+pub slice_bounds-copy-count-in-loop-k : goal.slice_bounds-copy-count-in-loop-k
+unfolding file_blocks_for
+slice_bounds-copy-count-in-loop-k c = omega (arith, (blocks (goal.at.slice_bounds-copy-count-in-loop-k c).After-as_chunks).count, c.loop-k.invariant.same)
+
+pub slice_bounds-copy-start-in-loop-k : goal.slice_bounds-copy-start-in-loop-k
+unfolding file_blocks_for
+slice_bounds-copy-start-in-loop-k c = omega (arith, (blocks (goal.at.slice_bounds-copy-start-in-loop-k c).After-as_chunks).count, c.loop-k.invariant.same)
 
 pub overflow_sub-end : goal.overflow_sub-end
 unfolding file_blocks_for
@@ -40,7 +48,7 @@ pub loop-k-preserved : goal.loop-k-preserved
 loop-k-preserved c =
     let b = blocks (goal.at.loop-k-preserved c).After-as_chunks in
     let size : content_at + (c.min-end.result - content_bytes * c.loop-k.k) - content_at ≡ c.min-end.result - content_bytes * c.loop-k.k = omega arith in
-    read_more c.loop-k.invariant (omega (arith, b.count)) (b.found _ (omega arith)) c.min-end.ensures (rw size at c.copy_from_slice.ensures.after)
+    read_more c.loop-k.invariant (omega (arith, b.count)) (b.found _ (omega arith)) c.min-end.ensures (rw size at c.copy.ensures)
 
 pub returns : goal.returns
 returns c = read_all c.loop-k.invariant (omega (arith, (blocks (goal.at.returns c).After-as_chunks).count))

@@ -14,4 +14,4 @@ returns-in_err-first-clause-steps c =
 pub returns-clause-steps : goal.returns-clause-steps
 returns-clause-steps c =
     let a = c.args.self.now.asked in
-    (refl, rw c.unwrap_or-end.ensures (one_stretch a.run.last (Blanks a) c.args.self.now.line (λ j b. (blanked_inside j b).1) c.in_ok-first.first c.next_line-2.result c.in_ok-first.ensures c.next_line-2.ensures))
+    (refl, rw c.unwrap_or-end.ensures (one_stretch a.run.last (Blanks a) c.args.self.now.line (λ j b. (blanked_inside j b).1) c.in_ok-first.first c.next_clear.result c.in_ok-first.ensures c.next_clear.ensures))
