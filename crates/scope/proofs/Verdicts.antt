@@ -1,11 +1,11 @@
--- The verdict on tests that are taken one after the other by `?` is the first that refuses. Assumes nothing.
+-- The verdict on tests that are taken one after the other, by `?` or by `and`, is the first that refuses. Assumes nothing.
 use Prim.Native.Nat.{ℕ}
 use mathlib.Core.Path.{◌≡◌, refl, ◌∙◌}
 use mathlib.Core.Option.{Option, some, none}
 use Rattle.std.specs.Prelude.{Result}
-use Rattle.std.specs.Result.{IsErrAnd}
+use Rattle.std.specs.Result.{IsErrAnd, result_and}
 use Rattle.std.proofs.lemmas.Result.{err_from_is_err_and}
-use Rattle.scope.specs.Refusal.{Refusal, Tests, ◌and_then◌, of_source, placed, complaint}
+use Rattle.scope.specs.Refusal.{Refusal, Tests, ◌and_then◌, of_source, or_else, placed, complaint}
 use Rattle.scope.specs.Inner.{verdict, at_source}
 use Rattle.scope.proofs.Judged.{Fails, Passes, refuse_verdict}
 
@@ -17,6 +17,16 @@ stopped {v = v} f e = let p = err_from_is_err_and v e in rw (p.1, p.2) (refuse_v
 pub passed : {a : Tests} (b : Tests) {v : Result (Unit {0}) Refusal} → Passes a → v ≡ verdict (complaint b) → v ≡ verdict (complaint (a and_then b))
 unfolding complaint
 passed b p e = e ∙ rw p.is
+
+-- of two complaints
+verdict_or : (a b : Option Refusal) → verdict (or_else a b) ≡ result_and (verdict a) (verdict b)
+verdict_or none b = refl
+verdict_or (some c) b = refl
+
+-- an `and` of what tests come to, and those behind them, is the verdict on all
+pub joined : (a b : Tests) {u v w : Result (Unit {0}) Refusal} → u ≡ verdict (complaint a) → v ≡ verdict (complaint b) → w ≡ result_and u v → w ≡ verdict (complaint (a and_then b))
+unfolding complaint
+joined a b p q e = e ∙ rw (p, q, verdict_or (complaint a) (complaint b))
 
 verdict_placed : (k : ℕ) (a : Option Refusal) → verdict (placed k a) ≡ at_source k (verdict a)
 unfolding at_source

@@ -202,12 +202,12 @@ pub fn judge_phase(source: Source) -> Result<(), Refusal>
     Reason::Phase.when(source.period <= source.phase)
 }
 
-// Inner step. What the table says of a source where no weight is given: of its period first, then of its phase.
+// Inner step. What the table says of a source where no weight is given: of its period first, then of its phase. By std's `and`, which takes
+// the first refusal, and no `?`: a wrong order of two values is refused for what it says, one of two exits for its form.
 pub fn judge_source(source: Source) -> Result<(), Refusal>
     ensures { result ≡ verdict (complaint (source_tests source)) }
 {
-    judge_period(source.period)?;
-    judge_phase(source)
+    judge_period(source.period).and(judge_phase(source))
 }
 
 impl Run {

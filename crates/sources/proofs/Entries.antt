@@ -9,10 +9,13 @@ use mathlib.Core.List.{List, [], ◌∷◌, ◌++◌, map-append}
 use lib.ListN.{length, drop, length-map, drop_of_length-le}
 use lib.Seq.{drop-cons}
 use native.Mathlib.Omega.{arith}
+use native.Mathlib.Decide.{ℕ_discrete}
 use borrow.Author.Tests.{ltb-false, eqb-false, ne_eqb, le-ltb}
 use Rattle.scope.specs.Refusal.{◌and_then◌, of_source, source_tests, weight_tests}
-use Rattle.scope.proofs.Judged.{Passes, sound, both, source_passes, no_tests}
-use Rattle.scope.proofs.Differs.{agrees, same}
+use Rattle.scope.specs.declared.Reason.TheVariants.{Lists}
+use Rattle.scope.specs.declared.Place.TheVariants.{Nowhere}
+use Rattle.scope.proofs.Judged.{Fails, Passes, broken, sound, first, then, both, source_passes, no_tests}
+use Rattle.scope.proofs.Differs.{differs, agrees, same}
 use Rattle.scope.proofs.Limits.{passes_when, passes_first, passes_then, passes_source, valid_source, valid_source_passes}
 use Rattle.sources.specs.declared.Entry.{Entry}
 use Rattle.sources.specs.Entry.{entries_of, entry_tests, length_tests, list_tests, source_lists_tests}
@@ -135,10 +138,24 @@ pub valid_lengths : (periods weights phases : List ℕ) → Passes (length_tests
 unfolding length_tests
 valid_lengths periods weights phases p = (same _ _ (passes_first p), same _ _ (passes_then p))
 
+-- and the other way round
+pub lengths_pass : (periods weights phases : List ℕ) → OneLength periods weights phases → Passes (length_tests periods weights and_then length_tests periods phases)
+unfolding length_tests
+lengths_pass periods weights phases v = both (sound (agrees refl refl v.0)) (sound (agrees refl refl v.1))
+
+-- and lists that are not of one length fail them
+pub lengths_fail : (periods weights phases : List ℕ) → (OneLength periods weights phases → ⊥) → Fails (length_tests periods weights and_then length_tests periods phases) Lists Nowhere
+unfolding length_tests
+lengths_fail periods weights phases n = go (ℕ_discrete (length periods) (length weights))
+  where
+    go : Dec (length periods ≡ length weights) → Fails (length_tests periods weights and_then length_tests periods phases) Lists Nowhere
+    go (yes e) = then (sound (agrees refl refl e)) (broken (differs refl refl (λ f. n (e, f))))
+    go (no d) = first (broken (differs refl refl d))
+
 -- and those that pass all their tests have entries that do; and the other way round
 pub valid_lists : (c : ℕ) (periods weights phases : List ℕ) → Passes (source_lists_tests c periods weights phases) ↔ (OneLength periods weights phases × Passes (list_tests c 1 (entries_of periods weights phases)))
-unfolding source_lists_tests length_tests
+unfolding source_lists_tests
 valid_lists c periods weights phases = (
   λ p. (valid_lengths periods weights phases (passes_first p), passes_then p),
-  λ v. both (both (sound (agrees refl refl v.0.0)) (sound (agrees refl refl v.0.1))) v.1,
+  λ v. both (lengths_pass periods weights phases v.0) v.1,
 )

@@ -4,10 +4,17 @@ use mathlib.Core.Option.{Option, some, none}
 use Rattle.std.specs.Prelude.{Result, Ok, Err}
 use Rattle.std.specs.Result.{IsErrAnd}
 use Rattle.std.proofs.lemmas.Result.{err_from_is_err_and}
+use Rattle.scope.specs.declared.Reason.{Reason}
+use Rattle.scope.specs.declared.Place.{Place}
 use Rattle.scope.specs.declared.Refusal.{Refusal}
 use Rattle.scope.specs.Refusal.{Tests, complaint}
 use Rattle.scope.proofs.Judged.{Fails, Passes}
 use Rattle.sources.specs.Inner.{granted}
+
+-- the refusal of tests that fail, whatever would have been granted
+pub refuses : {A : Type 0} {tests : Tests} {reason : Reason} {place : Place} {refusal : Refusal} (answer : A) → Fails tests reason place → refusal ≡ record { reason = reason; place = place }
+    → Err refusal ≡ granted (complaint tests) answer
+refuses answer f e = rw (e, f.is)
 
 -- a `?` hands on the refusal of tests that fail, whatever would have been granted
 pub withheld : {A : Type 0} {tests : Tests} {v : Result A Refusal} {x : Refusal} (answer : A) → Fails tests x.reason x.place → IsErrAnd v (λ y. y ≡ x) → v ≡ granted (complaint tests) answer

@@ -52,13 +52,13 @@ fn judge_weight(weight: u32) -> Result<(), Refusal>
 }
 
 impl Entry {
-    // What the table says of an entry: of its period first, then of its weight, then of its phase.
+    // What the table says of an entry: of its period first, then of its weight, then of its phase. (By `and`: as in scope's `judge_source`.)
     fn judge(self) -> Result<(), Refusal>
         ensures { result ≡ verdict (complaint (entry_tests ceiling self)) }
     {
-        scope::judge_period(self.source.period)?;
-        judge_weight(self.weight)?;
-        scope::judge_phase(self.source)
+        scope::judge_period(self.source.period)
+            .and(judge_weight(self.weight))
+            .and(scope::judge_phase(self.source))
     }
 }
 
@@ -75,7 +75,8 @@ impl<'a> Sources<'a> {
         }
     }
 
-    // Inner step. The same of any three lists, or what the table says where they are not of one length.
+    // Inner step. The same of any three lists, or what the table says where they are not of one length. One exit for both tests, so that
+    // the refusal stands there once; each test has a name, by which the proof goes.
     pub fn try_new(
         periods: &'a [u32],
         weights: &'a [u32],
@@ -83,8 +84,11 @@ impl<'a> Sources<'a> {
     ) -> Result<Sources<'a>, Refusal>
         ensures { result ≡ granted (complaint (length_tests periods.now weights.now and_then length_tests periods.now phases.now)) (entries_of periods.now weights.now phases.now) }
     {
-        Reason::Lists.when(periods.len() != weights.len())?;
-        Reason::Lists.when(periods.len() != phases.len())?;
+        let weights_differ = periods.len() != weights.len();
+        let phases_differ = periods.len() != phases.len();
+        if weights_differ || phases_differ {
+            return Err(Reason::Lists.alone());
+        }
         Ok(Sources::new(periods, weights, phases))
     }
 

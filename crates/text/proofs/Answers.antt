@@ -21,7 +21,7 @@ use Rattle.scope.specs.declared.Reason.TheVariants.{TooMany}
 use Rattle.scope.specs.Run.{ValidRun, ceiling, cells_of}
 use Rattle.scope.specs.Refusal.{◌when◌, ◌and_then◌, run_tests}
 use Rattle.scope.proofs.Judged.{Fails, Passes, first, then, both, refuse_reply, grant_reply, grant_stored}
-use Rattle.scope.proofs.Limits.{passes_when, valid_run}
+use Rattle.scope.proofs.Limits.{passes_when, passes_first, passes_then, valid_run}
 use Rattle.sources.specs.declared.Entry.{Entry}
 use Rattle.sources.specs.Entry.{list_tests}
 use Rattle.sources.specs.Lists.{periods_of, weights_of, phases_of}
@@ -127,41 +127,37 @@ module _ {text : List ℕ} {input : Input} (l : AllLines text input) where
   formed : Spells text said
   formed = has_form l.runs l.short l.lists.lines
 
-  pub stops_at_run : {v : Result Input Refusal} {refusal : Refusal} → Fails (run_tests input.run) refusal.reason refusal.place → IsErrAnd v (λ r. r ≡ refusal) → TextPromise text v
+  -- the tests of the run and of the number of sources are judged together
+  pub stops_at_run_or_count : {v : Result Input Refusal} {refusal : Refusal} → Fails (run_tests input.run and_then TooMany when ltb most_sources input.count) refusal.reason refusal.place → IsErrAnd v (λ r. r ≡ refusal) → TextPromise text v
   unfolding text_tests
-  stops_at_run f e = stops formed (first (first (first f))) e
+  stops_at_run_or_count f e = stops formed (first (first (rw l.lists.stored.counted f))) e
 
-  module _ (run_passes : Passes (run_tests input.run)) where
+  module _ (two_pass : Passes (run_tests input.run and_then TooMany when ltb most_sources input.count)) where
     pub run_valid : ValidRun input.run
-    run_valid = valid_run run_passes (omega (arith, l.runs.small 1))
+    run_valid = valid_run (passes_first two_pass) (omega (arith, l.runs.small 1))
 
-    pub stops_at_count : {v : Result Input Refusal} {refusal : Refusal} → Fails (TooMany when ltb most_sources input.count) refusal.reason refusal.place → IsErrAnd v (λ r. r ≡ refusal) → TextPromise text v
-    unfolding text_tests
-    stops_at_count f e = stops formed (first (first (then run_passes (rw l.lists.stored.counted f)))) e
+    pub few : input.count ≤ most_sources
+    few = ltb-false most_sources input.count (passes_when (passes_then two_pass))
 
-    module _ (count_passes : Passes (TooMany when ltb most_sources input.count)) where
-      pub few : input.count ≤ most_sources
-      few = ltb-false most_sources input.count (passes_when count_passes)
+    both_pass : Passes (run_tests input.run and_then TooMany when ltb most_sources (length said.entries))
+    both_pass = rw l.lists.stored.counted two_pass
 
-      both_pass : Passes (run_tests input.run and_then TooMany when ltb most_sources (length said.entries))
-      both_pass = both run_passes (rw l.lists.stored.counted count_passes)
+    module _ {cells : ℕ} (counted : cells ≡ cells_of input.run) where
+      pub stops_at_cells : {v : Result Input Refusal} {refusal : Refusal} → Fails (TooMany when ltb most_cells cells) refusal.reason refusal.place → IsErrAnd v (λ r. r ≡ refusal) → TextPromise text v
+      unfolding text_tests
+      stops_at_cells f e = stops formed (first (then both_pass (rw counted at f))) e
 
-      module _ {cells : ℕ} (counted : cells ≡ cells_of input.run) where
-        pub stops_at_cells : {v : Result Input Refusal} {refusal : Refusal} → Fails (TooMany when ltb most_cells cells) refusal.reason refusal.place → IsErrAnd v (λ r. r ≡ refusal) → TextPromise text v
+      module _ (cells_pass : Passes (TooMany when ltb most_cells cells)) {entries : List Entry} (listed : entries ≡ sources_in input) where
+        three_pass : Passes (run_tests input.run and_then TooMany when ltb most_sources (length said.entries) and_then TooMany when ltb most_cells (cells_of input.run))
+        three_pass = both both_pass (rw counted at cells_pass)
+
+        judged : entries ≡ said.entries
+        judged = listed ∙ entries_stored l.lists.stored few
+
+        pub stops_at_source : {v : Result Input Refusal} {refusal : Refusal} → Fails (list_tests ceiling 1 entries) refusal.reason refusal.place → IsErrAnd v (λ r. r ≡ refusal) → TextPromise text v
         unfolding text_tests
-        stops_at_cells f e = stops formed (first (then both_pass (rw counted at f))) e
+        stops_at_source f e = stops formed (then three_pass (rw judged at f)) e
 
-        module _ (cells_pass : Passes (TooMany when ltb most_cells cells)) {entries : List Entry} (listed : entries ≡ sources_in input) where
-          three_pass : Passes (run_tests input.run and_then TooMany when ltb most_sources (length said.entries) and_then TooMany when ltb most_cells (cells_of input.run))
-          three_pass = both both_pass (rw counted at cells_pass)
-
-          judged : entries ≡ said.entries
-          judged = listed ∙ entries_stored l.lists.stored few
-
-          pub stops_at_source : {v : Result Input Refusal} {refusal : Refusal} → Fails (list_tests ceiling 1 entries) refusal.reason refusal.place → IsErrAnd v (λ r. r ≡ refusal) → TextPromise text v
-          unfolding text_tests
-          stops_at_source f e = stops formed (then three_pass (rw judged at f)) e
-
-          pub passes_all : Passes (list_tests ceiling 1 entries) → TextPromise text (Ok input)
-          unfolding text_tests
-          passes_all p = accepts l.lists.stored few formed (both three_pass (rw judged at p))
+        pub passes_all : Passes (list_tests ceiling 1 entries) → TextPromise text (Ok input)
+        unfolding text_tests
+        passes_all p = accepts l.lists.stored few formed (both three_pass (rw judged at p))

@@ -9,18 +9,16 @@ use Rattle.words.specs.Line.{line}
 use Rattle.words.specs.Inner.{Spelled}
 use Rattle.words.proofs.Lines.{spelled_append, spelled_within, line_split}
 use Rattle.rooms.specs.Lists.{zeros}
-use Rattle.std.specs.Prelude.{Result, Err}
-use Rattle.std.specs.Result.{IsErrAnd}
-use Rattle.std.proofs.lemmas.Result.{err_from_is_err_and}
+use Rattle.std.specs.Prelude.{Err}
 use Rattle.scope.specs.declared.Run.{Run}
-use Rattle.scope.specs.declared.Reason.{Reason}
+use Rattle.scope.specs.declared.Reason.TheVariants.{Text}
 use Rattle.sources.specs.declared.Entry.{Entry}
 use Rattle.sources.specs.Lists.{periods_of, weights_of, phases_of}
 use Rattle.sources.proofs.Entries.{periods_length, weights_length, phases_length, periods_append, weights_append, phases_append}
 use Rattle.text.specs.Form.{src_word, SrcLine, with_phase, without_phase, src_numbers, meant, src_lines, sources_meant, SrcsSmall}
 use Rattle.text.specs.declared.Input.{Input}
 use Rattle.text.specs.Promise.{most_sources}
-use Rattle.text.specs.Inner.{no_source_yet, one_more, SrcStands, NoSrc, SourceStands, SourceAt, Lines, stored_in, Stored, LinesListed, NoLines, SourcesAt}
+use Rattle.text.specs.Inner.{no_source_yet, one_more, SrcStands, NoSrc, SourceStands, Lines, stored_in, Stored, NoLines, SourcesAt}
 
 -- ---- numbers stored from the front of a room on
 
@@ -169,7 +167,6 @@ module _ {text : List ℕ} {at : ℕ} {run : Run} {input : Input} {next : ℕ} (
         refutes = λ n. g.refutes (line_refutes l n);
       })
 
-  -- the text goes on, and not with a line: a `?` hands on the reason
-  pub listing_fails : {reason : Reason} (v : Result Input Reason) → next < length text → SourceAt text next (Err reason) → IsErrAnd v (λ r. r ≡ reason)
-      → SourcesAt text at run v
-  listing_fails v h n e = let p = err_from_is_err_and v e in rw (p.1, p.2) (n.0, g.refutes (no_line h n.1))
+  -- the text goes on, and not with a line: it is refused for that
+  pub listing_fails : next < length text → NoSrc text next → SourcesAt text at run (Err Text)
+  listing_fails h n = (refl, g.refutes (no_line h n))

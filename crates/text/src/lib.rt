@@ -97,7 +97,7 @@ fn read_source(text: &[u8], at: usize) -> Result<(Entry, usize), Reason>
 }
 
 // The run with the sources of the `src` lines from `at` on, if the text ends with them: all are counted, and as many are stored as
-// there is room for. No `run` line need stand before them.
+// there is room for. No `run` line need stand before them. (let .. else: as in `read_source`.)
 fn read_sources(text: &[u8], at: usize, run: Run) -> Result<Input, Reason>
     ensures { SourcesAt text.now at run result }
 {
@@ -105,7 +105,9 @@ fn read_sources(text: &[u8], at: usize, run: Run) -> Result<Input, Reason>
     let mut next = at;
     // A line tells where it ends, so that no range and no iterator counts the turns.
     while next < text.len() {
-        let (entry, end) = read_source(text, next)?;
+        let Ok((entry, end)) = read_source(text, next) else {
+            return Err(Reason::Text);
+        };
         input.add(entry);
         next = end;
     }
@@ -135,8 +137,8 @@ pub fn read_text(text: &[u8]) -> Result<Input, Refusal>
     ensures { TextPromise text.now result }
 {
     let input = read_lines(text).map_err(Reason::alone)?;
-    scope::judge_run(input.run)?;
-    Reason::TooMany.when(SOURCES < input.count)?;
+    // By `and`, as in scope's `judge_source`.
+    scope::judge_run(input.run).and(Reason::TooMany.when(SOURCES < input.count))?;
     Reason::TooMany.when(CELLS < scope::cells(input.run))?;
     input.sources().judge()?;
     Ok(input)

@@ -247,11 +247,11 @@ module _ {text : List ℕ} {at : ℕ} {word before room : List ℕ} {k next : �
       let all : length p.numbers + (length before - k) ≡ length before = omega (arith, p.counted, p.within) in
       word_refutes p.named (rw all at (numbers_refute p.numbers p.start next p.stand n))
 
-  -- the line breaks off there
-  pub passing_bad : k < length room → NoField text next → NoLine text at word (length before)
-  passing_bad h n =
+  -- the line breaks off there: it is refused, for the reason that the caller gave
+  pub passing_bad : (reason : Reason) → k < length room → NoField text next → LineAt text at word (length before) room reason (Err reason)
+  passing_bad reason h n =
       let less : length before - k ≡ suc (length before - (k + 1)) = omega (arith, p.long) in
-      refuted (rw less (no_field n (length before - (k + 1))))
+      (refl, refuted (rw less (no_field n (length before - (k + 1)))))
 
   pub passing_ends : length room ≤ k → (reason : Reason) (f : Result ℕ Reason) → WordAt text next (10 ∷ []) reason f → LineAt text at word (length before) room reason f
   passing_ends h reason (Ok end) w =

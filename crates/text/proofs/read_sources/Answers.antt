@@ -7,11 +7,11 @@ use Rattle.text.proofs.read_sources.Goals as goal
 pub loop-next-init : goal.loop-next-init
 loop-next-init c = listing_none c.new-input.ensures
 
-pub returns-in_err-entry : goal.returns-in_err-entry
-returns-in_err-entry c = listing_fails c.loop-next.invariant c.from_residual.result (omega arith) c.in_err-entry.ensures c.from_residual.ensures.1
+pub returns-in_default : goal.returns-in_default
+returns-in_default c = listing_fails c.loop-next.invariant (omega arith) c.in_default.ensures.1
 
 pub loop-next-smaller : goal.loop-next-smaller
-loop-next-smaller c = omega (arith, source_ends c.in_ok-entry.ensures)
+loop-next-smaller c = omega (arith, source_ends c.in-Ok.ensures)
 
 pub loop-next-preserved : goal.loop-next-preserved
 loop-next-preserved c = search (rules, listing_more)

@@ -9,7 +9,7 @@ pub returns-in_default : goal.returns-in_default
 returns-in_default c = (refl, no_word c.in_default.ensures.1 _)
 
 pub returns-in_default-read_field : goal.returns-in_default-read_field
-returns-in_default-read_field c = (refl, passing_bad c.loop-k.invariant (omega arith) c.in_default-read_field.ensures.1)
+returns-in_default-read_field c = passing_bad c.loop-k.invariant c.args.reason (omega arith) c.in_default-read_field.ensures.1
 
 pub loop-k-preserved : goal.loop-k-preserved
 loop-k-preserved c = passing_more c.loop-k.invariant (omega arith) c.in-Ok-read_field.ensures
