@@ -96,5 +96,7 @@ pub fn list_hits(
 {
     judge(run, source, start)?;
     Reason::Room.when(room.is_empty())?;
-    Ok(write_hits(Asked { run, source }, start, room))
+    // Named, so that a wrong program is an edit of the reply alone (`first_roomful`, `stores_before_refusing`).
+    let listing = write_hits(Asked { run, source }, start, room);
+    Ok(listing)
 }

@@ -1,7 +1,9 @@
 -- `decimal::read_number` meets its contract. The loop's invariant: the digits passed are those of `value`, which is not above the largest.
 -- Assumes nothing.
+use Prim.Native.Nat.{◌+◌}
 use native.Mathlib.Omega.{arith}
-use Rattle.decimal.proofs.Readings.{passed_first, passed_more, too_large}
+use mathlib.Core.Path.{subst}
+use Rattle.decimal.proofs.Readings.{Passed, passed_first, passed_more, too_large}
 use Rattle.decimal.proofs.read_number.Goals as goal
 
 pub loop-next-init : goal.loop-next-init
@@ -19,5 +21,7 @@ returns-in_err-value-2 c =
 
 pub loop-next-preserved : goal.loop-next-preserved
 loop-next-preserved c =
-    rw (c.in_ok-value-2.ensures.1, c.in_ok-checked_mul.ensures.1)
-    (passed_more c.loop-next.invariant c.in-Some.ensures (omega arith) (omega (arith, c.in_ok-checked_mul.ensures, c.in_ok-value-2.ensures)))
+    let ten = c.in_ok-checked_mul.ensures in
+    let sum = c.in_ok-value-2.ensures in
+    subst (λ v. Passed c.args.text.now c.args.at v (c.loop-next.next + 1)) (omega arith)
+    (passed_more c.loop-next.invariant c.in-Some.ensures (omega arith) (omega arith))

@@ -1,9 +1,9 @@
 -- `hits::first_hit` meets its promise: the tests, and then the search. Assumes nothing.
-use Rattle.std.proofs.Common.{arith, ap, ◌∙◌}
+use Rattle.std.proofs.Common.{arith, rules, ap, ◌∙◌}
 use Rattle.std.proofs.lemmas.Result.{err_from_is_err_and}
 use Rattle.scope.specs.Reply.{answered}
 use Rattle.scope.proofs.Judged.{fine, blamed, refuse_reply, grant_reply}
-use Rattle.hits.specs.Promise.{FirstHitPromise}
+use Rattle.hits.specs.Promise.{FirstHitPromise, cell_number}
 use Rattle.hits.proofs.Lists.{allowed, found_first}
 use Rattle.hits.proofs.first_hit.Goals as goal
 
@@ -23,4 +23,7 @@ find_hit-requires c = (allowed (omega (arith, c.well_formed.0)) (fine c.judge.en
 
 pub returns : goal.returns
 unfolding FirstHitPromise
-returns c = ap answered (found_first _ _ _ _ c.find_hit.ensures) ∙ grant_reply _ (fine c.judge.ensures c.in_ok-judge.was)
+returns c =
+    ap (λ found. answered (cell_number found)) (search rules)
+    ∙ ap answered (found_first _ _ _ _ c.find_hit.ensures)
+    ∙ grant_reply _ (fine c.judge.ensures c.in_ok-judge.was)

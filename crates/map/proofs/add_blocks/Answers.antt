@@ -4,7 +4,7 @@ use borrow.Rule.Slice.PartMut.{put_mid, mid_len}
 use native.Mathlib.Omega.{arith}
 use native.Mathlib.Nat.{mul-le-mul_left}
 use native.Mathlib.Numerals.{add-one}
-use mathlib.Core.Path.{◌≡◌, sym, ap, ◌∙◌}
+use mathlib.Core.Path.{◌≡◌, sym, ap, ◌∙◌, subst}
 use mathlib.Core.List.{List}
 use Prim.Native.Nat.{ℕ, suc, ◌+◌, ◌-◌, ◌*◌, ◌≤◌, ◌<◌}
 use lib.ListN.{length, take, drop}
@@ -104,8 +104,8 @@ pub loop-first-preserved : goal.loop-first-preserved
 loop-first-preserved c =
     let p = c.requires in
     let b = c.block_from-block.ensures in
-    let on : c.block_from-block.result.last + 1 ≡ c.loop-first.first + c.args.lines = omega arith in
-    rw on at (next c.loop-first.invariant p.0.valid p.0.whole (lent (goal.at.loop-first-preserved c).After-in_run-to) c.add_below.ensures)
+    let done = next c.loop-first.invariant p.0.valid p.0.whole (lent (goal.at.loop-first-preserved c).After-in_run-to) c.add_below.ensures in
+    subst (Blocks _ _ _ _ _) (omega arith) done
 
 pub returns : goal.returns
 returns c = all c.loop-first.invariant c.requires.0.valid c.requires.0.whole (omega arith)
