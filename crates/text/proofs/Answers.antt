@@ -28,9 +28,8 @@ use Rattle.sources.specs.Lists.{periods_of, weights_of, phases_of}
 use Rattle.sources.proofs.Entries.{entries_of_lem, periods_length, weights_length, phases_length}
 use Rattle.text.specs.Form.{run_word, run_numbers, SrcLine, src_lines, sources_meant, text_of, Content, Spells}
 use Rattle.text.specs.Promise.{most_sources, most_cells, Reads, text_tests, HasSources, TextPromise, sources_in}
-use Rattle.text.specs.Inner.{NotOfForm, Lines, stored_in, Stored, AllLines, NoLines, SourcesAt, LinesAt}
+use Rattle.text.specs.Inner.{NotOfForm, Lines, stored_in, Stored, AllLines, NoLines, LinesListed}
 use Rattle.text.specs.declared.Input.{Input}
-use Rattle.text.proofs.Lines.{run_of, line_run}
 use Rattle.text.proofs.Listing.{stored_fits}
 
 -- ---- what a text says
@@ -55,12 +54,11 @@ module _ {text : List ℕ} {run : Run} {at : ℕ} (l : Line text 0 run_word (run
   has_form {srcs} h m =
       record { srcs = srcs; formed = record { spelled = l.stands.is ∙ rw m.is; run_small = l.small; srcs_small = m.small; short = h }; means = refl }
 
--- what reading the `src` lines answers, after a line with four numbers
-pub all_lines : {text numbers : List ℕ} {at : ℕ} {run : Run} → Line text 0 run_word numbers at → length numbers ≡ 4 → run ≡ run_of numbers → length text ≤ 4096
-    → (found : Result Input Reason) → SourcesAt text at run found → LinesAt text found
-all_lines l h e short (Ok input) s =
-    record { short = short; at = _; runs = rw s.of_run (line_run l h e); lists = record { srcs = s.srcs; lines = s.lines; of_run = refl; stored = s.stored } }
-all_lines l h e short (Err reason) s = (s.0, no_sources (line_run l h e) s.1)
+-- what the `run` line and the `src` lines after it say
+pub all_read : {text : List ℕ} {at : ℕ} {run : Run} {input : Input} → length text ≤ 4096 → Line text 0 run_word (run_numbers run) at → LinesListed text at run input
+    → AllLines text input
+all_read short l s =
+    record { short = short; at = _; runs = rw s.of_run l; lists = record { srcs = s.srcs; lines = s.lines; of_run = refl; stored = s.stored } }
 
 -- ---- the reply that it makes
 

@@ -82,6 +82,11 @@ pub record LinesListed (text : List ℕ) (at : ℕ) (run : Run) (input : Input) 
   pub of_run : input.run ≡ run
   pub stored : Stored srcs input
 
+-- What a step that fills an input answers, with the input.
+abbrev pub filled : Result (Unit {0}) Reason → Input → Result Input Reason
+filled (Ok done) input = Ok input
+filled (Err reason) input = Err reason
+
 -- `src` lines are looked for, up to the end.
 abbrev pub SourcesAt : List ℕ → ℕ → Run → Result Input Reason → Type 0
 SourcesAt text at run (Ok input) = LinesListed text at run input
@@ -94,7 +99,7 @@ pub record AllLines (text : List ℕ) (input : Input) : Type 0 where
   pub runs : Line text 0 run_word (run_numbers input.run) at
   pub lists : LinesListed text at input.run input
 
--- The lines of a whole text are looked for.
-abbrev pub LinesAt : List ℕ → Result Input Reason → Type 0
-LinesAt text (Ok input) = AllLines text input
-LinesAt text (Err reason) = NotOfForm reason × Reads text none
+-- The `run` line of a whole text is looked for: its run, and where the line ends.
+abbrev pub RunAt : List ℕ → Result (Run × ℕ) Reason → Type 0
+RunAt text (Ok found) = (length text ≤ 4096) × Line text 0 run_word (run_numbers found.0) found.1
+RunAt text (Err reason) = NotOfForm reason × Reads text none

@@ -5,7 +5,7 @@
 ghost use Rattle.std.specs.Prelude.{◌≡◌, ◌+◌, ◌<◌, ◌≤◌, ◌^◌};
 ghost use Rattle.sources.specs.Entry.{entry_with};
 ghost use Rattle.text.specs.Promise.{most_sources, sources_in, TextPromise};
-ghost use Rattle.text.specs.Inner.{no_source_yet, one_more, SourceAt, SourcesAt, LinesAt};
+ghost use Rattle.text.specs.Inner.{no_source_yet, one_more, SourceAt, filled, SourcesAt, RunAt};
 
 use scope::{Reason, Refusal, Run, Source};
 use sources::{Entry, Sources};
@@ -96,12 +96,13 @@ fn read_source(text: &[u8], at: usize) -> Result<(Entry, usize), Reason>
     Ok((entry_with(period, weight, 0), next))
 }
 
-// The run with the sources of the `src` lines from `at` on, if the text ends with them: all are counted, and as many are stored as
-// there is room for. No `run` line need stand before them. (let .. else: as in `read_source`.)
-fn read_sources(text: &[u8], at: usize, run: Run) -> Result<Input, Reason>
-    ensures { SourcesAt text.now at run result }
+// Adds the sources of the `src` lines from `at` on to an input that has a run alone, if the text ends with them: all are counted, and as many
+// are stored as there is room for. No `run` line need stand before them. The input is lent: in a `Result` it would be copied at each step that
+// hands it on. (let .. else: as in `read_source`.)
+fn read_sources(text: &[u8], at: usize, input: &mut Input) -> Result<(), Reason>
+    requires { input.old ≡ no_source_yet input.old.run }
+    ensures { SourcesAt text.now at input.old.run (filled result input.new) }
 {
-    let mut input = Input::new(run);
     let mut next = at;
     // A line tells where it ends, so that no range and no iterator counts the turns.
     while next < text.len() {
@@ -111,12 +112,13 @@ fn read_sources(text: &[u8], at: usize, run: Run) -> Result<Input, Reason>
         input.add(entry);
         next = end;
     }
-    Ok(input)
+    Ok(())
 }
 
-// What the lines of a whole text say; a text that is too long is refused. (let .. else: as in `read_source`.)
-fn read_lines(text: &[u8]) -> Result<Input, Reason>
-    ensures { LinesAt text.now result }
+// The run that the first line of a text says, and where that line ends; a text that is too long is refused. (let .. else: as in
+// `read_source`.)
+fn read_run(text: &[u8]) -> Result<(Run, usize), Reason>
+    ensures { RunAt text.now result }
 {
     if LONGEST < text.len() {
         return Err(Reason::Text);
@@ -126,7 +128,7 @@ fn read_lines(text: &[u8]) -> Result<Input, Reason>
         return Err(Reason::Text);
     };
     let [window, interval, first, last] = numbers;
-    read_sources(text, at, Run::new(window, interval, first, last))
+    Ok((Run::new(window, interval, first, last), at))
 }
 
 // Public operation. The run and the sources that a text has, or the refusal.
@@ -136,7 +138,13 @@ fn read_lines(text: &[u8]) -> Result<Input, Reason>
 pub fn read_text(text: &[u8]) -> Result<Input, Refusal>
     ensures { TextPromise text.now result }
 {
-    let input = read_lines(text).map_err(Reason::alone)?;
+    let Ok((run, at)) = read_run(text) else {
+        return Err(Reason::Text.alone());
+    };
+    let mut input = Input::new(run);
+    let Ok(()) = read_sources(text, at, &mut input) else {
+        return Err(Reason::Text.alone());
+    };
     // By `and`, as in scope's `judge_source`.
     scope::judge_run(input.run).and(Reason::TooMany.when(SOURCES < input.count))?;
     Reason::TooMany.when(CELLS < scope::cells(input.run))?;

@@ -5,7 +5,7 @@ use Rattle.text.proofs.Listing.{listing_none, listing_more, listing_fails, sourc
 use Rattle.text.proofs.read_sources.Goals as goal
 
 pub loop-next-init : goal.loop-next-init
-loop-next-init c = listing_none c.new-input.ensures
+loop-next-init c = listing_none c.requires
 
 pub returns-in_default : goal.returns-in_default
 returns-in_default c = listing_fails c.loop-next.invariant (omega arith) c.in_default.ensures.1

@@ -5,7 +5,7 @@ use Rattle.text.proofs.Listing.{Listing}
 use Rattle.text.proofs.read_sources.Given as goal
 
 abbrev pub invariant-loop-next : goal.invariant-loop-next
-invariant-loop-next l = Listing l.text l.at l.fn.run l.input l.next
+invariant-loop-next l = Listing l.text l.at l.initial.input.run l.input l.next
 
 abbrev pub decreases-loop-next : goal.decreases-loop-next
 decreases-loop-next l = length l.text - l.next
