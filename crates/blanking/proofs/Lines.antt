@@ -3,17 +3,12 @@ use Prim.Native.Nat.{ℕ, suc, ◌+◌, ◌-◌, ◌≤◌, ◌<◌}
 use native.Mathlib.Decide.{dec_lt}
 use native.Mathlib.Omega.{arith}
 use mathlib.Core.Path.{◌≡◌}
-use mathlib.Core.Bool.{Bool, true, false, not}
-use Rattle.std.specs.Prelude.{Option, Some, None, MatchOption, unwrap_or}
+use mathlib.Core.Bool.{true, false}
+use Rattle.std.specs.Prelude.{Option, Some, None, unwrap_or}
 use Rattle.blanking.specs.Stretches.{In}
-use Rattle.blanking.specs.Inner.{As, NextLine, Begins}
+use Rattle.blanking.specs.Inner.{NextLine, Begins}
 
 module _ (last : ℕ) (So : ℕ → Type 0) (line : ℕ) where
-  -- what `find` says of the lines up to the last
-  pub found_line : (asked : Bool) (found : Option ℕ) → MatchOption found ((j : ℕ) → line ≤ j → j < last + 1 → As (not asked) (So j)) (λ next. (line ≤ next) × (next < last + 1) × As asked (So next) × ((j : ℕ) → line ≤ j → j < next → As (not asked) (So j))) → NextLine last So line asked found
-  found_line asked (Some next) f = (f.0, omega (arith, f.1), f.3, f.2)
-  found_line asked None f = λ j h k. f j h (omega arith)
-
   module _ (inside : (j : ℕ) → So j → j ≤ last) where
     -- no line is blanked from there on, so that there is no stretch
     pub no_stretch : NextLine last So line true None → (j : ℕ) → line ≤ j → So j → ⊥

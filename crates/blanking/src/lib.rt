@@ -130,14 +130,19 @@ impl<'a> Asked<'a> {
         reaches(&map[from..end], threshold)
     }
 
-    // The first line from `line` on that is blanked, where the run has one. This and the next are two functions, inlined, so that a step from
-    // stretch to stretch is one loop after the other, with no call: each has a `find` of its own.
+    // The first line from `line` on that is blanked, where the run has one. This, the next and `next` below are inlined, so that what they go by
+    // is worked out once and not for each stretch. Loops, since std's `find` would be called, from the counting and from the writing.
     #[inline(always)]
     fn next_blanked(&self, line: u32) -> Option<u32>
         requires { self.now.run.first ≤ line }
         ensures { NextLine self.now.run.last (Blanks self.now) line true result }
     {
-        (line..self.run.last + 1).find(|line| self.is_blanked(*line))
+        for blanked in line..self.run.last + 1 {
+            if self.is_blanked(blanked) {
+                return Some(blanked);
+            }
+        }
+        None
     }
 
     // The first line from `line` on that is not blanked, where the run has one.
@@ -146,7 +151,12 @@ impl<'a> Asked<'a> {
         requires { self.now.run.first ≤ line }
         ensures { NextLine self.now.run.last (Blanks self.now) line false result }
     {
-        (line..self.run.last + 1).find(|line| !self.is_blanked(*line))
+        for clear in line..self.run.last + 1 {
+            if !self.is_blanked(clear) {
+                return Some(clear);
+            }
+        }
+        None
     }
 
     // The stretches of the run, from its first line on.
@@ -183,6 +193,7 @@ impl Iterator for StretchesFrom<'_> {
 
     ghost remaining = { λ s. at_most (s.asked.run.last + 2 - s.line) };
 
+    #[inline(always)]
     fn next(&mut self) -> Option<Stretch> {
         // the first line that is blanked, and after it the first that is not
         let asked = self.asked;

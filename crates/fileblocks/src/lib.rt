@@ -22,7 +22,7 @@ const CHECK_AT: usize = 508;
 
 // The check of a block, 1 and the sum of (k+1)·byte k, in two columns as a spreadsheet has them: row 1 has byte 507, row 508 byte 0. A
 // row's total is the total above it and its byte, and the sum adds up the totals: byte k is in k+1 of them. None of the 508 totals is
-// above 508·255, so that 32 bits hold the sum.
+// above 508·255, so that 32 bits hold the sum. The rows go by number, so that another order of the bytes or one more is an edit of a number.
 fn check(block: &[u8]) -> u32
     requires { check_at ≤ length block.now }
     ensures { result ≡ check_of block.now }

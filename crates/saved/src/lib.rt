@@ -91,7 +91,8 @@ fn judge_heading(block: &[u8; FILE_BLOCK_BYTES]) -> Result<(), Refusal>
     Reason::Layout.when(!zeros_from(&block[5..8], 0))
 }
 
-// What the table says of the blocks after block 0, in order, if they are to hold `size` bytes of cells.
+// What the table says of the blocks after block 0, in order, if they are to hold `size` bytes of cells. They go by number, so that a last block
+// that is not judged is an edit of how many there are.
 fn judge_cells(size: usize, file: &[u8]) -> Result<(), Refusal>
     requires { (size < many_bytes) × (length file.now ≡ file_length size) }
     ensures { result ≡ verdict (complaint (later_file_blocks_tests size file.now (file_blocks_for size))) }

@@ -21,7 +21,7 @@ use Rattle.scope.specs.declared.Reason.TheVariants.{TooMany}
 use Rattle.scope.specs.Run.{ValidRun, ceiling, cells_of}
 use Rattle.scope.specs.Refusal.{◌when◌, ◌and_then◌, run_tests}
 use Rattle.scope.proofs.Judged.{Fails, Passes, first, then, both, refuse_reply, grant_reply, grant_stored}
-use Rattle.scope.proofs.Limits.{passes_when, passes_first, passes_then, valid_run}
+use Rattle.scope.proofs.Limits.{passes_when, passes_then, valid_run}
 use Rattle.sources.specs.declared.Entry.{Entry}
 use Rattle.sources.specs.Entry.{list_tests}
 use Rattle.sources.specs.Lists.{periods_of, weights_of, phases_of}
@@ -130,10 +130,10 @@ module _ {text : List ℕ} {input : Input} (l : AllLines text input) where
   unfolding text_tests
   stops_at_run_or_count f e = stops formed (first (first (rw l.lists.stored.counted f))) e
 
-  module _ (two_pass : Passes (run_tests input.run and_then TooMany when ltb most_sources input.count)) where
-    pub run_valid : ValidRun input.run
-    run_valid = valid_run (passes_first two_pass) (omega (arith, l.runs.small 1))
+  pub run_valid : Passes (run_tests input.run) → ValidRun input.run
+  run_valid run_passes = valid_run run_passes (omega (arith, l.runs.small 1))
 
+  module _ (two_pass : Passes (run_tests input.run and_then TooMany when ltb most_sources input.count)) where
     pub few : input.count ≤ most_sources
     few = ltb-false most_sources input.count (passes_when (passes_then two_pass))
 

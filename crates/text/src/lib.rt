@@ -142,9 +142,9 @@ pub fn read_text(text: &[u8]) -> Result<Input, Refusal>
         return Err(Reason::Text.alone());
     };
     let mut input = Input::new(run);
-    let Ok(()) = read_sources(text, at, &mut input) else {
-        return Err(Reason::Text.alone());
-    };
+    if let Err(reason) = read_sources(text, at, &mut input) {
+        return Err(reason.alone());
+    }
     // By `and`, as in scope's `judge_source`.
     scope::judge_run(input.run).and(Reason::TooMany.when(SOURCES < input.count))?;
     Reason::TooMany.when(CELLS < scope::cells(input.run))?;
